@@ -1,0 +1,21 @@
+-- The starred grids of document 01 have the figures of its table: computed from the definitions, over all cut vectors.
+use mathlib.Core.Path.{_≡_, refl}
+use mathlib.Core.List.{map}
+use Rattle.numbers.specs.Gcd.{gcd}
+use Rattle.numbers.specs.Sums.{same}
+use Rattle.multipartition.specs.Lists.{allBelow, listOf, startingWith, those}
+use Rattle.multipartition.specs.Cuts.{isEven, fitting, notLater, precedes, preferred, chosen, cheapest}
+use Rattle.multipartition.specs.Moduli.{moduliOf}
+use Rattle.multipartition.specs.Matrix.{remainder, finish, finishedRows, rowsOf, remaindersOf, matrixOf}
+use Rattle.multipartition.specs.MixedRadix.{numberFrom, digitsOf}
+use Rattle.multipartition.specs.Owners.{times, coordinatesAt, ownerAt}
+use Rattle.multipartition.specs.Neighbours.{columnOf, turn, turned, nextOwner, neighbourAt}
+use Rattle.multipartition.specs.Tiles.{positionOf}
+use Rattle.multipartition.specs.Chains.{lowest, headsOf, nextsOf}
+use Rattle.multipartition.specs.Jobs.{firstOutside, planWith, planAnswer}
+use Rattle.multipartition.specs.Grids.{Grid, figureOf, computed, starred}
+
+-- every figure of every starred grid
+pub starred-grids : map computed starred ≡ map (λ (grid : Grid). grid .answer) starred
+unfolding gcd same allBelow listOf startingWith those isEven fitting notLater precedes preferred chosen cheapest moduliOf remainder finish finishedRows rowsOf remaindersOf matrixOf numberFrom digitsOf times coordinatesAt ownerAt columnOf turn turned nextOwner neighbourAt positionOf lowest headsOf nextsOf firstOutside planWith planAnswer figureOf
+starred-grids = refl

@@ -1,0 +1,60 @@
+-- Choosing the cuts (document 01, "Choosing the cuts").
+use mathlib.Core.Bool.{Bool, true, false, cond, _&&_, _||_}
+use mathlib.Core.List.{List, [], _∷_}
+use mathlib.Core.Option.{Option, none, some}
+use Prim.Native.Nat.{ℕ, zero, suc, _+_, _*_, _%_, _≤_, _<_, _∣_}
+use lib.Dec.{leb, ltb, eqb}
+use lib.ListN.{length}
+use Rattle.numbers.specs.Products.{product, without}
+use Rattle.multipartition.specs.Lists.{allBelow, startingWith, those}
+
+-- "Cuts are even if p divides the product of all cuts but bk, for every k."
+abbrev pub Even : ℕ → List ℕ → Type 0
+Even p cuts = (k : ℕ) → k < length cuts → p ∣ product (without k cuts)
+
+-- the same as a test
+unfoldable pub isEven : ℕ → List ℕ → Bool
+isEven p cuts = allBelow (length cuts) (λ k. eqb (product (without k cuts) % p) 0)
+
+-- "They fit if 1 ≤ bk ≤ nk for every k."
+abbrev pub Fits : List ℕ → List ℕ → Type 0
+Fits [] [] = Unit {0}
+Fits [] (b ∷ cuts) = ⊥
+Fits (n ∷ extents) [] = ⊥
+Fits (n ∷ extents) (b ∷ cuts) = (1 ≤ b) × (b ≤ n) × Fits extents cuts
+
+-- all cuts that fit
+unfoldable pub fitting : List ℕ → List (List ℕ)
+fitting [] = [] ∷ []
+fitting (n ∷ extents) = startingWith 1 n (fitting extents)
+
+-- "The cost is b1·w1 + ... + bd·wd."
+abbrev pub costOf : List ℕ → List ℕ → ℕ
+costOf [] cuts = 0
+costOf (w ∷ weights) [] = 0
+costOf (w ∷ weights) (b ∷ cuts) = b * w + costOf weights cuts
+
+-- u has the smaller cut at the first dimension where u and v differ, or they differ nowhere
+unfoldable pub notLater : List ℕ → List ℕ → Bool
+notLater [] v = true
+notLater (b ∷ u) [] = false
+notLater (b ∷ u) (c ∷ v) = ltb b c || (eqb b c && notLater u v)
+
+-- The order among cuts: u is chosen rather than v if it has the "least cost; among equals, those with the smaller cut at the first dimension
+-- where they differ".
+unfoldable pub precedes : List ℕ → List ℕ → List ℕ → Bool
+precedes weights u v = ltb (costOf weights u) (costOf weights v) || (eqb (costOf weights u) (costOf weights v) && notLater u v)
+
+-- of cuts and what was chosen among others, the one that is chosen
+unfoldable pub preferred : List ℕ → List ℕ → Option (List ℕ) → Option (List ℕ)
+preferred weights u none = some u
+preferred weights u (some v) = some (cond (precedes weights u v) u v)
+
+-- the one of the lists that is chosen, if there is any
+unfoldable pub chosen : List ℕ → List (List ℕ) → Option (List ℕ)
+chosen weights [] = none
+chosen weights (u ∷ others) = preferred weights u (chosen weights others)
+
+-- "The planner answers with the even, fitting cuts of least cost .. The definition ranges over all cut vectors."
+unfoldable pub cheapest : ℕ → List ℕ → List ℕ → Option (List ℕ)
+cheapest p extents weights = chosen weights (those (isEven p) (fitting extents))

@@ -1,0 +1,16 @@
+pub mod Lists
+pub mod Answers
+pub mod Cuts
+pub mod Moduli
+pub mod Matrix
+pub mod MixedRadix
+pub mod Owners
+pub mod Neighbours
+pub mod Rivals
+pub mod Tiles
+pub mod Slabs
+pub mod Chains
+pub mod Plans
+pub mod Jobs
+pub mod Questions
+pub mod Grids

@@ -1,0 +1,67 @@
+-- What a plan holds, and when it is in shape (document 01, "Quantities" and "Where each call turns back").
+use mathlib.Core.Bool.{Bool, _&&_}
+use mathlib.Core.List.{List, []}
+use Prim.Native.Nat.{ℕ}
+use lib.Dec.{leb, ltb, eqb}
+use lib.ListN.{length, getD}
+use Rattle.numbers.specs.Products.{product}
+use Rattle.multipartition.specs.Lists.{allBelow}
+use Rattle.multipartition.specs.Cuts.{costOf}
+use Rattle.multipartition.specs.Moduli.{moduliOf}
+use Rattle.multipartition.specs.Matrix.{matrixOf}
+
+-- "A plan holds d, p, extents, weights, cuts, cost, moduli, matrix": each list has d numbers, the matrix d rows of d numbers. "Places past d
+-- .. are never read": a layout has none.
+pub record Layout : Type 0 where
+  pub d : ℕ
+  pub p : ℕ
+  pub extents : List ℕ
+  pub weights : List ℕ
+  pub cuts : List ℕ
+  pub cost : ℕ
+  pub moduli : List ℕ
+  pub matrix : List (List ℕ)
+
+-- the planner's plan with the cuts that it chose
+abbrev pub layoutWith : ℕ → List ℕ → List ℕ → List ℕ → Layout
+layoutWith p extents weights cuts = record {
+  d = length extents;
+  p = p;
+  extents = extents;
+  weights = weights;
+  cuts = cuts;
+  cost = costOf weights cuts;
+  moduli = moduliOf p cuts;
+  matrix = matrixOf p cuts;
+}
+
+-- "tiles = b1 × ... × bd"
+abbrev pub tilesOf : Layout → ℕ
+tilesOf plan = product (plan .cuts)
+
+-- "d: 2 to 5. p: 1 to 4,096. Extent: 1 to 1,000,000."
+abbrev pub between : ℕ → ℕ → ℕ → Bool
+between low high n = leb low n && leb n high
+
+-- extent and cut of dimension k, counted from 0: not "an extent is out of range, a cut is 0 or above its extent or above 4,096"
+abbrev pub dimensionOk : List ℕ → List ℕ → ℕ → Bool
+dimensionOk extents cuts k = between 1 1000000 (getD extents k 0) && between 1 (getD extents k 0) (getD cuts k 0) && leb (getD cuts k 0) 4096
+
+-- the entry of row i and column j, both counted from 0
+abbrev pub entryAt : List (List ℕ) → ℕ → ℕ → ℕ
+entryAt matrix i j = getD (getD matrix i []) j 0
+
+-- row i, counted from 0: not "a modulus is 0", nor "a matrix entry is not below its row's modulus"
+abbrev pub rowOk : ℕ → List ℕ → List (List ℕ) → ℕ → Bool
+rowOk d moduli matrix i = leb 1 (getD moduli i 0) && allBelow d (λ j. ltb (entryAt matrix i j) (getD moduli i 0))
+
+-- "A plan is out of shape if d, p or an extent is out of range, a cut is 0 or above its extent or above 4,096, there are more than 16,777,216
+-- tiles, a modulus is 0, the moduli don't multiply to p, or a matrix entry is not below its row's modulus."
+unfoldable pub inShape : Layout → Bool
+inShape plan =
+    between 2 5 (plan .d)
+    && between 1 4096 (plan .p)
+    && allBelow (plan .d) (dimensionOk (plan .extents) (plan .cuts))
+    && leb (tilesOf plan) 16777216
+    && allBelow (plan .d) (rowOk (plan .d) (plan .moduli) (plan .matrix))
+    && eqb (product (plan .moduli)) (plan .p)

@@ -1,0 +1,21 @@
+-- Slabs and their elements (document 01, "Tiles, slabs, chains"). An extent of n elements is cut into b slabs.
+use mathlib.Core.Bool.{cond}
+use Prim.Native.Nat.{ℕ, zero, suc, _*_, _/_}
+use lib.Dec.{ltb}
+
+-- "Slab s of dimension k holds the elements from floor(s·nk/bk) up to but not including floor((s+1)·nk/bk)": the first element of slab s
+unfoldable pub slabStart : ℕ → ℕ → ℕ → ℕ
+slabStart n b s = s * n / b
+
+-- the element after the last one of slab s
+abbrev pub slabEnd : ℕ → ℕ → ℕ → ℕ
+slabEnd n b s = slabStart n b (suc s)
+
+-- the first slab, from slab s on and looking at `count` of them, that ends past an element
+unfoldable pub slabFrom : ℕ → ℕ → ℕ → ℕ → ℕ → ℕ
+slabFrom n b element s zero = s
+slabFrom n b element s (suc count) = cond (ltb element (slabEnd n b s)) s (slabFrom n b element (suc s) count)
+
+-- "The slab of an element": the first that ends past it
+unfoldable pub slabOf : ℕ → ℕ → ℕ → ℕ
+slabOf n b element = slabFrom n b element 0 b

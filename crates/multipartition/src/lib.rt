@@ -1,0 +1,1 @@
+// Generalized multipartitioning: definitions (specs/) and theorems (proofs/). No code runs here.
