@@ -1,3 +1,4 @@
 pub mod Gcd
 pub mod Products
 pub mod Sums
+pub mod LeastFactor

@@ -1,1 +1,2 @@
-// Number theory for planners.
+// Number theory for planners. euclid.rt: the greatest common divisor.
+pub mod euclid;

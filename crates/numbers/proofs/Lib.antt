@@ -1,0 +1,9 @@
+pub mod Divides
+pub mod Gcd
+pub mod Lcm
+pub mod Bezout
+pub mod Congruence
+pub mod Sums
+pub mod Residues
+pub mod Products
+pub mod LeastFactor
