@@ -4,7 +4,8 @@ use mathlib.Core.Logic.{_⊎_, inl, inr}
 use Prim.Native.Nat.{ℕ, zero, suc, _+_, _%_, _≤_, _<_, _∣_}
 use native.Mathlib.Nat.{le-antisymm, le-of-dvd, dvd-refl, dvd-trans, dvd-of-mod-eq-zero, mod-eq-zero-of-dvd, eq-or-lt-of-le}
 use native.Mathlib.Omega.{arith}
-use Rattle.numbers.specs.LeastFactor.{firstFactor, leastFactor}
+use borrow.Author.Tests.{lt-ltb, le-ltb}
+use Rattle.numbers.specs.LeastFactor.{firstFactor, leastFactor, leastFactorAnswer}
 
 -- f is the least factor of n above 1
 pub record LeastFactor (n f : ℕ) : Type 0 where
@@ -42,3 +43,17 @@ search-is (suc fuel) n d (suc r) hd enough below er tried =
 pub leastFactor-is : (n : ℕ) → 1 < n → LeastFactor n (leastFactor n)
 unfolding leastFactor
 leastFactor-is n hn = search-is n n 2 (n % 2) (omega arith) (omega arith) hn refl (λ e he h. he)
+
+-- ---- the answer of `least_factor`, in the table's range and outside
+
+pub answer-below : (n : ℕ) → n < 2 → leastFactorAnswer n ≡ 0
+unfolding leastFactorAnswer
+answer-below n h = rw (lt-ltb n 2 h)
+
+pub answer-above : (n : ℕ) → 4096 < n → leastFactorAnswer n ≡ 0
+unfolding leastFactorAnswer
+answer-above n h = rw (le-ltb n 2 (omega arith), lt-ltb 4096 n h)
+
+pub answer-inside : (n : ℕ) → 1 < n → n ≤ 4096 → leastFactorAnswer n ≡ leastFactor n
+unfolding leastFactorAnswer
+answer-inside n low high = rw (le-ltb n 2 low, le-ltb 4096 n high)

@@ -7,3 +7,5 @@ pub mod Sums
 pub mod Residues
 pub mod Products
 pub mod LeastFactor
+pub mod Table
+pub mod LeastTable

@@ -1,5 +1,7 @@
 -- The least factor above 1 of a number, which is its least prime factor. It computes at numerals: leastFactor 91 is 7.
+use mathlib.Core.Bool.{cond}
 use Prim.Native.Nat.{ℕ, zero, suc, _%_}
+use lib.Dec.{ltb}
 
 -- The first number from d on that divides n, among d and the next `fuel` ones; r is the remainder of n at d.
 unfoldable pub firstFactor : ℕ → ℕ → ℕ → ℕ → ℕ
@@ -11,3 +13,7 @@ firstFactor (suc fuel) n d (suc r) = firstFactor fuel n (suc d) (n % suc d)
 unfoldable pub leastFactor : ℕ → ℕ
 unfolding firstFactor
 leastFactor n = firstFactor n n 2 (n % 2)
+
+-- what `least_factor` answers: 0 below 2 and above 4096
+unfoldable pub leastFactorAnswer : ℕ → ℕ
+leastFactorAnswer n = cond (ltb n 2) 0 (cond (ltb 4096 n) 0 (leastFactor n))
