@@ -1,2 +1,3 @@
 pub mod Grids
 pub mod WholeNumbers
+pub mod MixedRadix

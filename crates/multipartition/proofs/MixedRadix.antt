@@ -1,0 +1,96 @@
+-- Digits in mixed radix: a number and its digits are made from each other. The first digit is multiplied by all later bases, and the others
+-- are the same question for the later bases.
+use mathlib.Core.Path.{_≡_, refl, sym, ap, ap₂, _∙_, subst⁻¹}
+use mathlib.Core.List.{List, [], _∷_}
+use Prim.Native.Nat.{ℕ, zero, _+_, _*_, _/_, _%_, _<_}
+use native.Mathlib.Nat.{zero-lt-suc, mul-pos, mod-lt, mod-one, mod-eq-of-lt, mul-add-div-right, mul-add-mod-self-right}
+use native.Mathlib.Omega.{arith}
+use lib.Arith.{digits-lt, digits-div, mod-mul}
+use Rattle.numbers.specs.Products.{product}
+use Rattle.multipartition.specs.Lists.{first, rest}
+use Rattle.multipartition.specs.MixedRadix.{numberFrom, digitsOf}
+use Rattle.multipartition.specs.Tiles.{Inside}
+
+-- no base is 0
+unfoldable pub Positive : List ℕ → Type 0
+Positive [] = Unit {0}
+Positive (b ∷ bases) = (zero < b) × Positive bases
+
+pub product-positive : (bases : List ℕ) → Positive bases → zero < product bases
+unfolding Positive
+product-positive [] h = zero-lt-suc 0
+product-positive (b ∷ bases) h = mul-pos (h .0) (product-positive bases (h .1))
+
+-- ---- numbers
+
+-- what the number starts from is multiplied by all bases
+pub number-from : (n : ℕ) (bases digits : List ℕ) → numberFrom n bases digits ≡ n * product bases + numberFrom 0 bases digits
+unfolding numberFrom
+number-from n [] digits = omega arith
+number-from n (b ∷ bases) digits =
+    omega (arith, number-from (n * b + first digits) bases (rest digits), number-from (0 * b + first digits) bases (rest digits))
+
+-- the first digit is multiplied by all later bases
+pub number-first : (b : ℕ) (bases digits : List ℕ)
+    → numberFrom 0 (b ∷ bases) digits ≡ first digits * product bases + numberFrom 0 bases (rest digits)
+unfolding numberFrom
+number-first b bases digits = omega (arith, number-from (0 * b + first digits) bases (rest digits))
+
+pub number-below : (bases digits : List ℕ) → Inside bases digits → numberFrom 0 bases digits < product bases
+unfolding numberFrom Inside
+number-below [] [] h = zero-lt-suc 0
+number-below [] (c ∷ digits) h = absurd h
+number-below (b ∷ bases) [] h = absurd h
+number-below (b ∷ bases) (c ∷ digits) h =
+    subst⁻¹ (λ (n : ℕ). n < b * product bases) (number-first b bases (c ∷ digits)) (digits-lt (h .0) (number-below bases digits (h .1)))
+
+-- ---- digits
+
+pub digits-inside : (bases : List ℕ) (n : ℕ) → Positive bases → Inside bases (digitsOf bases n)
+unfolding digitsOf Inside Positive
+digits-inside [] n h = tt
+digits-inside (b ∷ bases) n h = (mod-lt (n / product bases) (h .0), digits-inside bases n (h .1))
+
+-- a multiple of all bases changes no digit
+pub digits-from : (n r : ℕ) (bases : List ℕ) → Positive bases → digitsOf bases (n * product bases + r) ≡ digitsOf bases r
+unfolding digitsOf Positive
+digits-from n r [] h = refl
+digits-from n r (b ∷ bases) h =
+    ap₂ (λ (c : ℕ) (digits : List ℕ). c ∷ digits)
+    (ap (λ (x : ℕ). x / product bases % b) regroup
+    ∙ ap (λ (x : ℕ). x % b) (mul-add-div-right (product-positive bases (h .1)) (n * b) r)
+    ∙ mul-add-mod-self-right n b (r / product bases))
+    (ap (digitsOf bases) regroup ∙ digits-from (n * b) r bases (h .1))
+  where
+    regroup : n * (b * product bases) + r ≡ n * b * product bases + r
+    regroup = omega arith
+
+-- ---- both ways
+
+-- the digits of a number are those that it was made of
+pub digits-of-number : (bases digits : List ℕ) → Positive bases → Inside bases digits → digitsOf bases (numberFrom 0 bases digits) ≡ digits
+unfolding digitsOf Inside Positive
+digits-of-number [] [] h w = refl
+digits-of-number [] (c ∷ digits) h w = absurd w
+digits-of-number (b ∷ bases) [] h w = absurd w
+digits-of-number (b ∷ bases) (c ∷ digits) h w =
+    ap₂ (λ (c : ℕ) (digits : List ℕ). c ∷ digits)
+    (ap (λ (x : ℕ). x / product bases % b) (number-first b bases (c ∷ digits))
+    ∙ ap (λ (x : ℕ). x % b) (digits-div c (number-below bases digits (w .1)))
+    ∙ mod-eq-of-lt (w .0))
+    (ap (digitsOf bases) (number-first b bases (c ∷ digits))
+    ∙ digits-from c (numberFrom 0 bases digits) bases (h .1)
+    ∙ digits-of-number bases digits (h .1) (w .1))
+
+-- the digits of any number make its remainder by the product of the bases
+pub number-of-digits-mod : (bases : List ℕ) (n : ℕ) → Positive bases → numberFrom 0 bases (digitsOf bases n) ≡ n % product bases
+unfolding digitsOf Positive numberFrom
+number-of-digits-mod [] n h = sym (mod-one n)
+number-of-digits-mod (b ∷ bases) n h =
+    number-first b bases (digitsOf (b ∷ bases) n)
+    ∙ ap (λ (x : ℕ). n / product bases % b * product bases + x) (number-of-digits-mod bases n (h .1))
+    ∙ sym (mod-mul n (h .0) (product-positive bases (h .1)))
+
+-- and the number itself where it is below that product
+pub number-of-digits : (bases : List ℕ) (n : ℕ) → Positive bases → n < product bases → numberFrom 0 bases (digitsOf bases n) ≡ n
+number-of-digits bases n h l = number-of-digits-mod bases n h ∙ mod-eq-of-lt l
