@@ -9,3 +9,4 @@ pub mod Products
 pub mod LeastFactor
 pub mod Table
 pub mod LeastTable
+pub mod Divisors

@@ -2,3 +2,4 @@ pub mod Gcd
 pub mod Products
 pub mod Sums
 pub mod LeastFactor
+pub mod Divisors
