@@ -5,7 +5,7 @@ use Prim.Native.Nat.{ℕ, zero, suc, _+_, _%_, _≤_, _<_, _∣_}
 use native.Mathlib.Nat.{le-antisymm, le-of-dvd, dvd-refl, dvd-trans, dvd-of-mod-eq-zero, mod-eq-zero-of-dvd, eq-or-lt-of-le}
 use native.Mathlib.Omega.{arith}
 use borrow.Author.Tests.{lt-ltb, le-ltb}
-use Rattle.numbers.specs.LeastFactor.{firstFactor, leastFactor, leastFactorAnswer}
+use Rattle.numbers.specs.LeastFactor.{firstFactor, leastFactor, leastFactorAnswer, Prime}
 
 -- f is the least factor of n above 1
 pub record LeastFactor (n f : ℕ) : Type 0 where
@@ -43,6 +43,11 @@ search-is (suc fuel) n d (suc r) hd enough below er tried =
 pub leastFactor-is : (n : ℕ) → 1 < n → LeastFactor n (leastFactor n)
 unfolding leastFactor
 leastFactor-is n hn = search-is n n 2 (n % 2) (omega arith) (omega arith) hn refl (λ e he h. he)
+
+pub leastFactor-prime : (n : ℕ) → 1 < n → Prime (leastFactor n)
+leastFactor-prime n hn =
+    let F : LeastFactor n (leastFactor n) = leastFactor-is n hn in
+    record { above-one = F .above-one; only = λ d hd df. least-prime n (leastFactor n) d F hd df }
 
 -- ---- the answer of `least_factor`, in the table's range and outside
 

@@ -10,3 +10,4 @@ pub mod LeastFactor
 pub mod Table
 pub mod LeastTable
 pub mod Divisors
+pub mod Merge

@@ -1,6 +1,7 @@
 -- The least factor above 1 of a number, which is its least prime factor. It computes at numerals: leastFactor 91 is 7.
+use mathlib.Core.Path.{_≡_}
 use mathlib.Core.Bool.{cond}
-use Prim.Native.Nat.{ℕ, zero, suc, _%_}
+use Prim.Native.Nat.{ℕ, zero, suc, _%_, _<_, _∣_}
 use lib.Dec.{ltb}
 
 -- The first number from d on that divides n, among d and the next `fuel` ones; r is the remainder of n at d.
@@ -17,3 +18,8 @@ leastFactor n = firstFactor n n 2 (n % 2)
 -- what `least_factor` answers: 0 below 2 and above 4096
 unfoldable pub leastFactorAnswer : ℕ → ℕ
 leastFactorAnswer n = cond (ltb n 2) 0 (cond (ltb 4096 n) 0 (leastFactor n))
+
+-- f is prime: above 1, with no factor above 1 but itself
+pub record Prime (f : ℕ) : Type 0 where
+  pub above-one : 1 < f
+  pub only : (d : ℕ) → 1 < d → d ∣ f → d ≡ f
