@@ -9,8 +9,8 @@ use native.Mathlib.Decide.{decLe, decLt, decDvd}
 use native.Mathlib.Omega.{arith}
 use lib.ListN.{length, getD, length-append, List·getD-append}
 use lib.Seq.{getD-append-seam}
-use borrow.Author.Tests.{eq-eqb, ne-eqb}
-use Rattle.numbers.specs.Divisors.{divisorsTo, divisorsOf}
+use borrow.Author.Tests.{eq-eqb, ne-eqb, le-leb, lt-leb}
+use Rattle.numbers.specs.Divisors.{divisorsTo, divisorsOf, divisorsAnswer}
 use Rattle.numbers.proofs.Divides.{quotient-pos}
 
 -- ---- one number more
@@ -209,3 +209,17 @@ length-divisorsOf-le n h = go (decLe (length (divisorsOf n)) 127)
         let low : 65 ≤ d = lt-entry n 64 inside in
         let high : 64 ≤ n / d = omega (arith, cofactor-ge n (length (divisorsOf n) - 65) 64 hn (omega arith)) in
         absurd (omega (arith, mul-le-mul low high, mul-div-cancel' d (dvd-of-entry n 64 inside)))
+
+-- ---- the answer of `divisors`, up to 4096 and above
+
+pub answer-zero : divisorsAnswer 0 ≡ []
+unfolding divisorsAnswer divisorsOf divisorsTo
+answer-zero = refl
+
+pub answer-above : (n : ℕ) → 4096 < n → divisorsAnswer n ≡ []
+unfolding divisorsAnswer
+answer-above n h = rw (lt-leb n 4096 h)
+
+pub answer-inside : (n : ℕ) → n ≤ 4096 → divisorsAnswer n ≡ divisorsOf n
+unfolding divisorsAnswer
+answer-inside n h = rw (le-leb n 4096 h)

@@ -1,11 +1,12 @@
 -- The least factor above 1: what it is, that there is one only, that it is prime, and that leastFactor is it.
-use mathlib.Core.Path.{_≡_, refl, sym, ap, subst}
+use mathlib.Core.Path.{_≡_, refl, sym, _∙_, ap, subst}
 use mathlib.Core.Logic.{_⊎_, inl, inr}
-use Prim.Native.Nat.{ℕ, zero, suc, _+_, _%_, _≤_, _<_, _∣_}
-use native.Mathlib.Nat.{le-antisymm, le-of-dvd, dvd-refl, dvd-trans, dvd-of-mod-eq-zero, mod-eq-zero-of-dvd, eq-or-lt-of-le}
+use Prim.Native.Nat.{ℕ, zero, suc, _+_, _*_, _/_, _%_, _≤_, _<_, _∣_}
+use native.Mathlib.Nat.{le-antisymm, le-of-dvd, dvd-refl, dvd-trans, dvd-of-mod-eq-zero, mod-eq-zero-of-dvd, eq-or-lt-of-le, mul-div-cancel', mul-comm, div-lt-self}
 use native.Mathlib.Omega.{arith}
 use borrow.Author.Tests.{lt-ltb, le-ltb}
 use Rattle.numbers.specs.LeastFactor.{firstFactor, leastFactor, leastFactorAnswer, Prime}
+use Rattle.numbers.proofs.Divides.{divides, pos-left, pos-right}
 
 -- f is the least factor of n above 1
 pub record LeastFactor (n f : ℕ) : Type 0 where
@@ -48,6 +49,45 @@ pub leastFactor-prime : (n : ℕ) → 1 < n → Prime (leastFactor n)
 leastFactor-prime n hn =
     let F : LeastFactor n (leastFactor n) = leastFactor-is n hn in
     record { above-one = F .above-one; only = λ d hd df. least-prime n (leastFactor n) d F hd df }
+
+-- ---- taking n apart: least factors move from `rest` to `done` one after the other
+
+pub record Factoring (n done rest : ℕ) : Type 0 where
+  pub whole : done * rest ≡ n
+  pub positive : zero < n
+
+module _ {n done rest : ℕ} (S : Factoring n done rest) where
+  pub done-pos : zero < done
+  done-pos = pos-left done rest (subst (λ (x : ℕ). zero < x) (sym (S .whole)) (S .positive))
+
+  -- nothing is left
+  pub factoring-end : rest ≤ 1 → done ≡ n
+  factoring-end h =
+      let one : rest ≡ 1 = omega (arith, pos-right done rest (subst (λ (x : ℕ). zero < x) (sym (S .whole)) (S .positive))) in
+      omega (arith, S .whole, ap (λ (x : ℕ). done * x) one)
+
+  pub rest-le : rest ≤ n
+  rest-le = le-of-dvd (S .positive) (divides rest done (sym (S .whole) ∙ mul-comm done rest))
+
+  module _ {f : ℕ} (e : f ≡ leastFactor rest) (more : 1 < rest) where
+    is : LeastFactor rest f
+    is = subst (λ (x : ℕ). LeastFactor rest x) (sym e) (leastFactor-is rest more)
+
+    pub factor-prime : Prime f
+    factor-prime = subst (λ (x : ℕ). Prime x) (sym e) (leastFactor-prime rest more)
+
+    pub factoring-step : Factoring n (f * done) (rest / f)
+    factoring-step =
+        record {
+          whole = omega (arith, S .whole, ap (λ (x : ℕ). done * x) (mul-div-cancel' f (is .divides)));
+          positive = S .positive;
+        }
+
+    pub done-le : f * done ≤ n
+    done-le = le-of-dvd (S .positive) (divides (f * done) (rest / f) (sym (factoring-step .whole)))
+
+    pub rest-falls : rest / f < rest
+    rest-falls = div-lt-self (omega arith) (is .above-one)
 
 -- ---- the answer of `least_factor`, in the table's range and outside
 

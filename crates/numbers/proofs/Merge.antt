@@ -4,7 +4,7 @@ use mathlib.Core.Path.{_≡_, refl, sym, _∙_, ap, subst}
 use mathlib.Core.Logic.{_⊎_, inl, inr}
 use mathlib.Core.List.{List, [], _∷_, _++_}
 use Prim.Native.Nat.{ℕ, zero, suc, _+_, _-_, _*_, _/_, min, _≤_, _<_, _∣_, zero-le}
-use native.Mathlib.Nat.{dvd-refl, dvd-trans, dvd-mul-left, dvd-of-mul-dvd-mul-left, mul-dvd-mul-left, mul-div-cancel', mul-le-mul-left, mul-pos, mul-comm, div-one, div-eq-of-eq-mul-right, div-lt-iff-lt-mul, le-div-iff-mul-le, div-mul-le-self, div-le-of-le-mul, mul-div-le, zero-div, le-of-dvd, le-antisymm, le-refl, pos-of-dvd-of-pos}
+use native.Mathlib.Nat.{dvd-refl, dvd-trans, dvd-mul-left, dvd-of-mul-dvd-mul-left, mul-dvd-mul-left, mul-div-cancel', mul-le-mul-left, mul-le-mul-right, mul-pos, mul-comm, div-one, div-eq-of-eq-mul-right, div-lt-iff-lt-mul, le-div-iff-mul-le, div-mul-le-self, div-le-of-le-mul, mul-div-le, zero-div, le-of-dvd, le-antisymm, le-refl, pos-of-dvd-of-pos}
 use native.Mathlib.Decide.{decLe, decLt, ℕ-discrete}
 use native.Mathlib.Numerals.{add-one}
 use native.Mathlib.Omega.{arith}
@@ -55,6 +55,10 @@ listed-behind xs count of P i h = ap (λ (l : List ℕ). getD l i 0) (P .places)
 
 pub listed-none : Listed [] 0 (replicate 128 0)
 listed-none = record { counted = refl; places = refl }
+
+pub listed-one : Listed (divisorsOf 1) 1 (1 ∷ replicate 127 0)
+unfolding divisorsOf divisorsTo
+listed-one = record { counted = refl; places = refl }
 
 -- one entry more
 listed-more : (xs : List ℕ) (count : ℕ) (of : List ℕ) (w : ℕ) → Listed xs count of → count < 128 → Listed (xs ++ (w ∷ [])) (count + 1) (set of count w)
@@ -121,54 +125,78 @@ merging-end f m last i j count of S h =
     let e : last ≡ f * m = omega (arith, S .within) in
     subst (λ (v : ℕ). Listed (divisorsTo (f * m) v) count of) e (S .written)
 
--- one turn: w is the smaller of the next divisor of m, if there is one, and the next one times f
-module _ (f m : ℕ) (F : Prime f) (hm : zero < m) (total : ℕ) (older : List ℕ) (known : Listed (divisorsOf m) total older)
-    (last i j count : ℕ) (of : List ℕ) (S : Merging f m last i j count of) (less : last < f * m) where
-  pub first-le : i ≤ length (divisorsOf m)
+-- a turn of the merge, before the last divisor is written; `older` holds the divisors of m
+pub record Turn (f m : ℕ) (older : List ℕ) (last i j count : ℕ) (of : List ℕ) : Type 0 where
+  pub prime : Prime f
+  pub positive : zero < m
+  pub small : f * m ≤ 4096
+  pub total : ℕ
+  pub known : Listed (divisorsOf m) total older
+  pub state : Merging f m last i j count of
+  pub less : last < f * m
+
+module _ {f m : ℕ} {older : List ℕ} {last i j count : ℕ} {of : List ℕ} (T : Turn f m older last i j count of) where
+  -- ---- the places that it reads and writes
+
+  length-le : length (divisorsOf m) ≤ 127
+  length-le = length-divisorsOf-le m (omega (arith, T .small, mul-le-mul-right m (factor-pos (T .prime))))
+
+  pub first-lt : i < 128
   unfolding divisorsOf
-  first-le = go (decLe last m)
+  first-lt = go (decLe last m)
     where
-      go : Dec (last ≤ m) → i ≤ length (divisorsTo m m)
-      go (yes l) = omega (arith, S .first, length-divisorsTo-mono m last m l)
-      go (no q) = omega (arith, S .first, ap length (divisorsTo-all m last hm (omega arith)))
+      go : Dec (last ≤ m) → i < 128
+      go (yes l) = omega (arith, length-le, T .state .first, length-divisorsTo-mono m last m l)
+      go (no q) = omega (arith, length-le, T .state .first, ap length (divisorsTo-all m last (T .positive) (omega arith)))
 
-  pub second-lt : j < length (divisorsOf m)
+  second-inside : j < length (divisorsOf m)
   unfolding divisorsOf
-  second-lt =
-      let low : last < m * f = omega arith in
-      omega (arith, S .second, length-divisorsTo-lt m (last / f) m (div-lt-iff-lt-mul (factor-pos F) .1 low) (dvd-refl m))
+  second-inside =
+      let low : last < m * f = omega (arith, T .less) in
+      omega (arith, T .state .second, length-divisorsTo-lt m (last / f) m (div-lt-iff-lt-mul (factor-pos (T .prime)) .1 low) (dvd-refl m))
 
-  pub count-lt : f * m ≤ 4096 → count < 128
+  pub second-lt : j < 128
+  second-lt = omega (arith, length-le, second-inside)
+
+  pub count-lt : count < 128
   unfolding divisorsOf
-  count-lt h = omega (arith, S .written .counted, length-divisorsTo-lt (f * m) last (f * m) less (dvd-refl (f * m)), length-divisorsOf-le (f * m) h)
+  count-lt =
+      omega
+      (arith, T .state .written .counted, length-divisorsTo-lt (f * m) last (f * m) (T .less) (dvd-refl (f * m)), length-divisorsOf-le (f * m) (T .small))
+
+  -- ---- the next divisor of each run
 
   first-next : Next m last (getD older i 0) ⊎ ((getD older i 0 ≡ 0) × ((e : ℕ) → last < e → ¬ (e ∣ m)))
   unfolding divisorsOf
   first-next = go (decLt i (length (divisorsTo m m)))
     where
       go : Dec (i < length (divisorsTo m m)) → Next m last (getD older i 0) ⊎ ((getD older i 0 ≡ 0) × ((e : ℕ) → last < e → ¬ (e ∣ m)))
-      go (yes l) = inl (rw (listed-inside (divisorsTo m m) total older known i l) (entry-next m m last i l (S .first)))
+      go (yes l) = inl (rw (listed-inside (divisorsTo m m) (T .total) older (T .known) i l) (entry-next m m last i l (T .state .first)))
       go (no q) =
           inr (
-            listed-behind (divisorsTo m m) total older known i (omega arith),
-            λ e l d. omega (arith, S .first, length-divisorsTo-lt m last e l d, length-divisorsTo-mono m e m (le-of-dvd hm d)),
+            listed-behind (divisorsTo m m) (T .total) older (T .known) i (omega arith),
+            λ e l d. omega (arith, T .state .first, length-divisorsTo-lt m last e l d, length-divisorsTo-mono m e m (le-of-dvd (T .positive) d)),
           )
 
-  pub second-next : Next m (last / f) (getD older j 0)
+  second-next : Next m (last / f) (getD older j 0)
   unfolding divisorsOf
   second-next =
-      rw (listed-inside (divisorsTo m m) total older known j second-lt) (entry-next m m (last / f) j second-lt (S .second))
+      rw (listed-inside (divisorsTo m m) (T .total) older (T .known) j second-inside) (entry-next m m (last / f) j second-inside (T .state .second))
+
+  pub product-le : f * getD older j 0 ≤ 4096
+  product-le = omega (arith, T .small, mul-le-mul-left f (le-of-dvd (T .positive) (second-next .divides)))
 
   -- the next divisor of m times f is the least such above `last`
   times-above : last < f * getD older j 0
-  times-above = omega (arith, div-lt-iff-lt-mul {k = f} {x = last} {y = getD older j 0} (factor-pos F) .0 (second-next .above))
+  times-above = omega (arith, div-lt-iff-lt-mul {k = f} {x = last} {y = getD older j 0} (factor-pos (T .prime)) .0 (second-next .above))
 
   times-least : (e : ℕ) → last < e → f ∣ e → e / f ∣ m → f * getD older j 0 ≤ e
   times-least e l fe d =
       let whole : f * (e / f) ≡ e = mul-div-cancel' f fe in
-      let past : last / f < e / f = div-lt-iff-lt-mul (factor-pos F) .1 (omega arith) in
+      let past : last / f < e / f = div-lt-iff-lt-mul (factor-pos (T .prime)) .1 (omega arith) in
       omega (arith, mul-le-mul-left f (second-next .least (e / f) past d))
 
+  -- w is the smaller of the two
   module _ (w : ℕ) (alone : getD older i 0 ≡ 0 → w ≡ f * getD older j 0) (smaller : 0 < getD older i 0 → w ≡ min (getD older i 0) (f * getD older j 0)) where
     pub merging-next : Next (f * m) last w
     merging-next = go first-next
@@ -183,7 +211,7 @@ module _ (f m : ℕ) (F : Prime f) (hm : zero < m) (total : ℕ) (older : List �
         times-dvd = mul-dvd-mul-left (getD older j 0) f (second-next .divides)
 
         least : w ≤ b → ((e : ℕ) → last < e → e ∣ m → w ≤ e) → (e : ℕ) → last < e → e ∣ f * m → w ≤ e
-        least wb first e l d = pick (dvd-prime-mul f m e F (omega arith) d)
+        least wb first e l d = pick (dvd-prime-mul f m e (T .prime) (omega arith) d)
           where
             pick : (e ∣ m) ⊎ ((f ∣ e) × (e / f ∣ m)) → w ≤ e
             pick (inl em) = first e l em
@@ -209,13 +237,13 @@ module _ (f m : ℕ) (F : Prime f) (hm : zero < m) (total : ℕ) (older : List �
               least = least (omega arith) (λ x l d. absurd (none x l d));
             }
 
-    pub merging-step : count < 128 → Merging f m w (i + same (getD older i 0) w) (j + same (f * getD older j 0) w) (count + 1) (set of count w)
-    merging-step h =
+    pub merging-step : Merging f m w (i + same (getD older i 0) w) (j + same (f * getD older j 0) w) (count + 1) (set of count w)
+    merging-step =
         record {
-          within = le-of-dvd (mul-pos (factor-pos F) hm) (merging-next .divides);
+          within = le-of-dvd (mul-pos (factor-pos (T .prime)) (T .positive)) (merging-next .divides);
           first = first first-next;
           second = second;
-          written = rw (divisorsTo-next (f * m) last w merging-next) (listed-more (divisorsTo (f * m) last) count of w (S .written) h);
+          written = rw (divisorsTo-next (f * m) last w merging-next) (listed-more (divisorsTo (f * m) last) count of w (T .state .written) count-lt);
         }
       where
         a : ℕ
@@ -233,17 +261,17 @@ module _ (f m : ℕ) (F : Prime f) (hm : zero < m) (total : ℕ) (older : List �
         first : Next m last a ⊎ ((a ≡ 0) × ((e : ℕ) → last < e → ¬ (e ∣ m))) → i + same a w ≡ length (divisorsTo m w)
         first (inl N) =
             let w-le-a : w ≤ a = merging-next .least a (N .above) (dvd-trans a (N .divides) (dvd-mul-left m f)) in
-            omega (arith, S .first, length-next m last w a N (omega (arith, above)) w-le-a)
+            omega (arith, T .state .first, length-next m last w a N (omega (arith, above)) w-le-a)
         first (inr (z, none)) =
             omega (
               arith,
-              S .first,
+              T .state .first,
               same-no a w (λ e. omega (arith, above)),
               ap length (divisorsTo-none m last w (omega (arith, above)) (λ e l q k. none e l k)),
             )
 
         second : j + same (f * d) w ≡ length (divisorsTo m (w / f))
         second =
-            let low : last / f ≤ w / f = le-div-iff-mul-le (factor-pos F) .1 (omega (arith, div-mul-le-self last f, above)) in
+            let low : last / f ≤ w / f = le-div-iff-mul-le (factor-pos (T .prime)) .1 (omega (arith, div-mul-le-self last f, above)) in
             let high : w / f ≤ d = div-le-of-le-mul f w-le in
-            omega (arith, S .second, length-next m (last / f) (w / f) d second-next low high, same-mul f d w (factor-pos F) w-le)
+            omega (arith, T .state .second, length-next m (last / f) (w / f) d second-next low high, same-mul f d w (factor-pos (T .prime)) w-le)

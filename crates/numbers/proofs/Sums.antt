@@ -15,6 +15,13 @@ pub same-no : (x y : ℕ) → (x ≡ y → ⊥) → same x y ≡ zero
 unfolding same
 same-no x y f = ap indicator (ne-eqb x y f)
 
+pub same-le : (x y : ℕ) → same x y ≤ 1
+same-le x y = go (ℕ-discrete x y)
+  where
+    go : Dec (x ≡ y) → same x y ≤ 1
+    go (yes e) = omega (arith, same-yes x y e)
+    go (no f) = omega (arith, same-no x y f)
+
 -- a product of indicators is 1 where both equations hold, else 0
 pub both-yes : (x y z w : ℕ) → x ≡ y → z ≡ w → same x y * same z w ≡ 1
 both-yes x y z w e f = ap₂ _*_ (same-yes x y e) (same-yes z w f)
