@@ -1,3 +1,6 @@
 pub mod Grids
 pub mod WholeNumbers
 pub mod MixedRadix
+pub mod Tests
+pub mod Order
+pub mod Cheapest

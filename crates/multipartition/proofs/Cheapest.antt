@@ -1,0 +1,215 @@
+-- The law of `cheapest`: it answers the even, fitting cuts that precede all others, and nothing where no fitting cuts are even. The cuts that
+-- fit are those of the enumeration, and what is chosen among lists is one of them and precedes each.
+use mathlib.Core.Path.{_≡_, refl, sym, _∙_, ap, subst, subst⁻¹}
+use mathlib.Core.Logic.{_⊎_, inl, inr, ⊎-elim, _↔_}
+use mathlib.Core.Bool.{Bool, true, false, cond}
+use mathlib.Core.List.{List, [], _∷_, _++_, map}
+use mathlib.Core.Option.{Option, none, some}
+use Prim.Native.Nat.{ℕ, zero, suc, _+_, _%_, _≤_, _<_}
+use native.Mathlib.Nat.{dvd-of-mod-eq-zero, mod-eq-zero-of-dvd, eq-or-lt-of-le}
+use native.Mathlib.Omega.{arith}
+use borrow.Author.Tests.{eqb-true, eq-eqb}
+use lib.Dec.{eqb}
+use lib.ListN.{length}
+use Rattle.numbers.specs.Products.{product, without}
+use Rattle.multipartition.specs.Lists.{allBelow, startingWith, those}
+use Rattle.multipartition.specs.Cuts.{Even, isEven, Fits, fitting, costOf, precedes, preferred, chosen, cheapest}
+use Rattle.multipartition.proofs.Tests.{false-not-true, allBelow-true-iff}
+use Rattle.multipartition.proofs.Order.{Precedes, precedes-true, precedes-refl, precedes-trans, precedes-antisymm, precedes-total, precedes-le}
+
+-- What an answer must be: even, fitting cuts that precede all others; or nothing, where no fitting cuts are even.
+abbrev pub Cheapest : ℕ → List ℕ → List ℕ → Option (List ℕ) → Type 0
+Cheapest p extents weights none = (v : List ℕ) → Fits extents v → Even p v → ⊥
+Cheapest p extents weights (some u) = Fits extents u × Even p u × ((v : List ℕ) → Fits extents v → Even p v → Precedes weights u v)
+
+-- the test of evenness
+pub isEven-true : (p : ℕ) (v : List ℕ) → (isEven p v ≡ true) ↔ Even p v
+unfolding isEven
+isEven-true p v = (
+  (λ e k h. dvd-of-mod-eq-zero p (eqb-true (product (without k v) % p) 0 (all .0 e k h))),
+  λ even. all .1 (λ k h. eq-eqb (product (without k v) % p) 0 (mod-eq-zero-of-dvd p (even k h))),
+)
+  where
+    all : (allBelow (length v) (λ k. eqb (product (without k v) % p) 0) ≡ true) ↔ ((k : ℕ) → k < length v → eqb (product (without k v) % p) 0 ≡ true)
+    all = allBelow-true-iff (length v) (λ k. eqb (product (without k v) % p) 0)
+
+-- ---- members of a list of lists
+
+-- v is one of xs
+abbrev pub In : List ℕ → List (List ℕ) → Type 0
+In v [] = ⊥
+In v (x ∷ xs) = (v ≡ x) ⊎ In v xs
+
+in-append : (v : List ℕ) (xs ys : List (List ℕ)) → In v (xs ++ ys) ↔ (In v xs ⊎ In v ys)
+in-append v [] ys = (inr, ⊎-elim (λ h. absurd h) (λ h. h))
+in-append v (x ∷ xs) ys = (
+  ⊎-elim (λ q. inl (inl q)) (λ h. ⊎-elim (λ k. inl (inr k)) inr (in-append v xs ys .0 h)),
+  ⊎-elim (⊎-elim inl (λ h. inr (in-append v xs ys .1 (inl h)))) (λ h. inr (in-append v xs ys .1 (inr h))),
+)
+
+-- v begins with b, and its rest is one of xs
+abbrev Begins : ℕ → List (List ℕ) → List ℕ → Type 0
+Begins b xs [] = ⊥
+Begins b xs (c ∷ v) = (c ≡ b) × In v xs
+
+begins-of-in : (b : ℕ) (v : List ℕ) (xs : List (List ℕ)) → In v (map (λ x. b ∷ x) xs) → Begins b xs v
+begins-of-in b v [] h = absurd h
+begins-of-in b v (x ∷ xs) (inl q) = subst⁻¹ (λ (z : List ℕ). Begins b (x ∷ xs) z) q (refl, inl refl)
+begins-of-in b v (x ∷ xs) (inr h) = more v (begins-of-in b v xs h)
+  where
+    more : (v : List ℕ) → Begins b xs v → Begins b (x ∷ xs) v
+    more [] k = absurd k
+    more (c ∷ v) k = (k .0, inr (k .1))
+
+in-map-cons : (b : ℕ) (v : List ℕ) (xs : List (List ℕ)) → In v xs → In (b ∷ v) (map (λ x. b ∷ x) xs)
+in-map-cons b v [] h = absurd h
+in-map-cons b v (x ∷ xs) (inl q) = inl (ap (λ (z : List ℕ). b ∷ z) q)
+in-map-cons b v (x ∷ xs) (inr h) = inr (in-map-cons b v xs h)
+
+-- v begins with one of n numbers, the first of them `from`, and its rest is one of xs
+abbrev Starts : ℕ → ℕ → List (List ℕ) → List ℕ → Type 0
+Starts from n xs [] = ⊥
+Starts from n xs (c ∷ v) = (from ≤ c) × (c < from + n) × In v xs
+
+starts-of-in : (from n : ℕ) (xs : List (List ℕ)) (v : List ℕ) → In v (startingWith from n xs) → Starts from n xs v
+unfolding startingWith
+starts-of-in from zero xs v h = absurd h
+starts-of-in from (suc n) xs v h =
+    ⊎-elim (λ i. here v (begins-of-in from v xs i)) (λ i. later v (starts-of-in (suc from) n xs v i))
+    (in-append v (map (λ x. from ∷ x) xs) (startingWith (suc from) n xs) .0 h)
+  where
+    here : (v : List ℕ) → Begins from xs v → Starts from (suc n) xs v
+    here [] j = absurd j
+    here (c ∷ v) j = let e = j .0 in (omega arith, omega arith, j .1)
+
+    later : (v : List ℕ) → Starts (suc from) n xs v → Starts from (suc n) xs v
+    later [] j = absurd j
+    later (c ∷ v) j = (omega arith, omega arith, j .2)
+
+in-startingWith : (from n : ℕ) (xs : List (List ℕ)) (c : ℕ) (v : List ℕ) → from ≤ c → c < from + n → In v xs → In (c ∷ v) (startingWith from n xs)
+unfolding startingWith
+in-startingWith from zero xs c v low high i = absurd (omega arith)
+in-startingWith from (suc n) xs c v low high i =
+    in-append (c ∷ v) (map (λ x. from ∷ x) xs) (startingWith (suc from) n xs) .1
+    (⊎-elim (λ (q : from ≡ c). inl (subst (λ (j : ℕ). In (j ∷ v) (map (λ x. from ∷ x) xs)) q (in-map-cons from v xs i)))
+    (λ l. inr (in-startingWith (suc from) n xs c v l (omega arith) i)) (eq-or-lt-of-le low))
+
+in-fitting : (extents v : List ℕ) → Fits extents v → In v (fitting extents)
+unfolding fitting
+in-fitting [] [] h = inl refl
+in-fitting [] (c ∷ v) h = absurd h
+in-fitting (n ∷ extents) [] h = absurd h
+in-fitting (n ∷ extents) (c ∷ v) h = in-startingWith 1 n (fitting extents) c v (h .0) (omega arith) (in-fitting extents v (h .2))
+
+fits-of-in : (extents v : List ℕ) → In v (fitting extents) → Fits extents v
+unfolding fitting
+fits-of-in [] v (inl q) = subst⁻¹ (λ (z : List ℕ). Fits [] z) q tt
+fits-of-in [] v (inr h) = absurd h
+fits-of-in (n ∷ extents) v h = first v (starts-of-in 1 n (fitting extents) v h) (λ u i. fits-of-in extents u i)
+  where
+    first : (v : List ℕ) → Starts 1 n (fitting extents) v → ((u : List ℕ) → In u (fitting extents) → Fits extents u) → Fits (n ∷ extents) v
+    first [] j rest = absurd j
+    first (c ∷ v) j rest = (j .0, omega arith, rest v (j .2))
+
+-- the enumeration has the fitting cuts, and no others
+pub fitting-in : (extents v : List ℕ) → In v (fitting extents) ↔ Fits extents v
+fitting-in extents v = (fits-of-in extents v, in-fitting extents v)
+
+-- those that pass a test
+pub those-in : (test : List ℕ → Bool) (v : List ℕ) (xs : List (List ℕ)) → In v (those test xs) ↔ (In v xs × (test v ≡ true))
+unfolding those
+those-in test v [] = ((λ h. absurd h), λ h. absurd (h .0))
+those-in test v (x ∷ xs) = go (test x) refl (those-in test v xs)
+  where
+    go : (t : Bool) → test x ≡ t → In v (those test xs) ↔ (In v xs × (test v ≡ true)) →
+        In v (cond t (x ∷ those test xs) (those test xs)) ↔ (((v ≡ x) ⊎ In v xs) × (test v ≡ true))
+    go true e i = (
+      ⊎-elim (λ (q : v ≡ x). (inl q, ap test q ∙ e)) (λ h. (inr (i .0 h .0), i .0 h .1)),
+      λ h. ⊎-elim inl (λ k. inr (i .1 (k, h .1))) (h .0),
+    )
+    go false e i = (
+      (λ h. (inr (i .0 h .0), i .0 h .1)),
+      λ h. ⊎-elim (λ (q : v ≡ x). absurd (false-not-true (sym e ∙ ap test (sym q) ∙ h .1))) (λ k. i .1 (k, h .1)) (h .0),
+    )
+
+-- ---- what is chosen among lists
+
+-- o is the one of xs that precedes all of them
+abbrev Chosen : List ℕ → List (List ℕ) → Option (List ℕ) → Type 0
+Chosen weights xs none = (v : List ℕ) → In v xs → ⊥
+Chosen weights xs (some u) = In u xs × ((v : List ℕ) → In v xs → Precedes weights u v)
+
+preferred-chosen : (weights x : List ℕ) (xs : List (List ℕ)) (o : Option (List ℕ)) → Chosen weights xs o → Chosen weights (x ∷ xs) (preferred weights x o)
+unfolding preferred
+preferred-chosen weights x xs none c =
+    (inl refl, λ v. ⊎-elim (λ (q : v ≡ x). subst⁻¹ (λ (z : List ℕ). Precedes weights x z) q (precedes-refl weights x)) (λ h. absurd (c v h)))
+preferred-chosen weights x xs (some u) c = go (precedes weights x u) refl
+  where
+    go : (t : Bool) → precedes weights x u ≡ t → Chosen weights (x ∷ xs) (some (cond t x u))
+    go true e = (
+      inl refl,
+      λ v. ⊎-elim (λ (q : v ≡ x). subst⁻¹ (λ (z : List ℕ). Precedes weights x z) q (precedes-refl weights x))
+          (λ h. precedes-trans weights x u v (precedes-true weights x u .0 e) (c .1 v h)),
+    )
+    go false e =
+        (inr (c .0), λ v. ⊎-elim (λ (q : v ≡ x). subst⁻¹ (λ (z : List ℕ). Precedes weights u z) q later) (c .1 v))
+      where
+        later : Precedes weights u x
+        later = ⊎-elim (λ h. absurd (false-not-true (sym e ∙ precedes-true weights x u .1 h))) (λ h. h) (precedes-total weights x u)
+
+chosen-meets : (weights : List ℕ) (xs : List (List ℕ)) → Chosen weights xs (chosen weights xs)
+unfolding chosen
+chosen-meets weights [] = λ v h. h
+chosen-meets weights (x ∷ xs) = preferred-chosen weights x xs (chosen weights xs) (chosen-meets weights xs)
+
+-- ---- the law
+
+cheapest-of-chosen : (p : ℕ) (extents weights : List ℕ) (o : Option (List ℕ)) → Chosen weights (those (isEven p) (fitting extents)) o → Cheapest p extents weights o
+cheapest-of-chosen p extents weights o c = go o c
+  where
+    member : (v : List ℕ) → Fits extents v → Even p v → In v (those (isEven p) (fitting extents))
+    member v f e = those-in (isEven p) v (fitting extents) .1 (in-fitting extents v f, isEven-true p v .1 e)
+
+    go : (o : Option (List ℕ)) → Chosen weights (those (isEven p) (fitting extents)) o → Cheapest p extents weights o
+    go none c = λ v f e. c v (member v f e)
+    go (some u) c =
+        let i = those-in (isEven p) u (fitting extents) .0 (c .0) in
+        (fits-of-in extents u (i .0), isEven-true p u .0 (i .1), λ v f e. c .1 v (member v f e))
+
+-- `cheapest` answers as it must
+pub cheapest-meets : (p : ℕ) (extents weights : List ℕ) → Cheapest p extents weights (cheapest p extents weights)
+unfolding cheapest
+cheapest-meets p extents weights =
+    cheapest-of-chosen p extents weights (chosen weights (those (isEven p) (fitting extents))) (chosen-meets weights (those (isEven p) (fitting extents)))
+
+cheapest-unique : (p : ℕ) (extents weights : List ℕ) (o q : Option (List ℕ)) → Cheapest p extents weights o → Cheapest p extents weights q → o ≡ q
+cheapest-unique p extents weights none none h k = refl
+cheapest-unique p extents weights none (some v) h k = absurd (h v (k .0) (k .1))
+cheapest-unique p extents weights (some u) none h k = absurd (k u (h .0) (h .1))
+cheapest-unique p extents weights (some u) (some v) h k = ap some (precedes-antisymm weights u v (h .2 v (k .0) (k .1)) (k .2 u (h .0) (h .1)))
+
+-- and nothing else is as it must be
+pub cheapest-only : (p : ℕ) (extents weights : List ℕ) (o : Option (List ℕ)) → Cheapest p extents weights o → cheapest p extents weights ≡ o
+cheapest-only p extents weights o h = cheapest-unique p extents weights (cheapest p extents weights) o (cheapest-meets p extents weights) h
+
+-- the law by which others use `cheapest`
+pub cheapest-law : (p : ℕ) (extents weights : List ℕ) (o : Option (List ℕ)) → (cheapest p extents weights ≡ o) ↔ Cheapest p extents weights o
+cheapest-law p extents weights o =
+    ((λ e. subst (λ (q : Option (List ℕ)). Cheapest p extents weights q) e (cheapest-meets p extents weights)), cheapest-only p extents weights o)
+
+pub cheapest-fits : (p : ℕ) (extents weights u : List ℕ) → cheapest p extents weights ≡ some u → Fits extents u
+cheapest-fits p extents weights u e = cheapest-law p extents weights (some u) .0 e .0
+
+pub cheapest-even : (p : ℕ) (extents weights u : List ℕ) → cheapest p extents weights ≡ some u → Even p u
+cheapest-even p extents weights u e = cheapest-law p extents weights (some u) .0 e .1
+
+pub cheapest-precedes : (p : ℕ) (extents weights u v : List ℕ) → cheapest p extents weights ≡ some u → Fits extents v → Even p v → Precedes weights u v
+cheapest-precedes p extents weights u v e f even = cheapest-law p extents weights (some u) .0 e .2 v f even
+
+-- no even, fitting cuts are cheaper than those that it answers
+pub cheapest-le : (p : ℕ) (extents weights u v : List ℕ) → cheapest p extents weights ≡ some u → Fits extents v → Even p v → costOf weights u ≤ costOf weights v
+cheapest-le p extents weights u v e f even = precedes-le weights u v (cheapest-precedes p extents weights u v e f even)
+
+-- it answers nothing only where no fitting cuts are even: refusal 5
+pub cheapest-none : (p : ℕ) (extents weights v : List ℕ) → cheapest p extents weights ≡ none → Fits extents v → Even p v → ⊥
+cheapest-none p extents weights v e f even = cheapest-law p extents weights none .0 e v f even
