@@ -4,3 +4,4 @@ pub mod MixedRadix
 pub mod Tests
 pub mod Order
 pub mod Cheapest
+pub mod Tiles
