@@ -5,3 +5,4 @@ pub mod Tests
 pub mod Order
 pub mod Cheapest
 pub mod Tiles
+pub mod Slabs
