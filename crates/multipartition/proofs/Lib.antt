@@ -6,3 +6,4 @@ pub mod Order
 pub mod Cheapest
 pub mod Tiles
 pub mod Slabs
+pub mod Chains
