@@ -7,3 +7,4 @@ pub mod Cheapest
 pub mod Tiles
 pub mod Slabs
 pub mod Chains
+pub mod Moduli
