@@ -8,3 +8,4 @@ pub mod Tiles
 pub mod Slabs
 pub mod Chains
 pub mod Moduli
+pub mod Rows
