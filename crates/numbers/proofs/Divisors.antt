@@ -3,7 +3,7 @@
 use mathlib.Core.Path.{_≡_, refl, sym, _∙_, ap, subst}
 use mathlib.Core.Logic.{_⊎_, inl, inr}
 use mathlib.Core.List.{List, [], _∷_, _++_, append-nil}
-use Prim.Native.Nat.{ℕ, zero, suc, _+_, _-_, _*_, _/_, _%_, _≤_, _<_, _∣_}
+use Prim.Native.Nat.{ℕ, zero, suc, _+_, _-_, _/_, _%_, _≤_, _<_, _∣_}
 use native.Mathlib.Nat.{eq-or-lt-of-le, not-suc-le-zero, le-of-suc-le-suc, le-refl, le-antisymm, le-of-dvd, pos-of-dvd-of-pos, dvd-of-mod-eq-zero, mod-eq-zero-of-dvd, mul-div-cancel', mul-le-mul, mul-le-mul-left, mul-lt-mul-of-pos-right, lt-of-not-le}
 use native.Mathlib.Decide.{decLe, decLt, decDvd}
 use native.Mathlib.Omega.{arith}

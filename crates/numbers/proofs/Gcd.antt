@@ -1,5 +1,5 @@
 -- The laws of the greatest common divisor. All rest on three: gcd-dvd-left, gcd-dvd-right and dvd-gcd.
-use mathlib.Core.Path.{_≡_, refl, sym, _∙_, ap, ap₂, subst}
+use mathlib.Core.Path.{_≡_, sym, _∙_, ap, ap₂, subst}
 use Prim.Native.Nat.{ℕ, zero, suc, _*_, _/_, _%_, _≤_, _<_, _∣_}
 use native.Mathlib.Nat.{le-refl, le-trans, le-of-suc-le-suc, not-suc-le-zero, zero-lt-suc, mod-lt, eq-zero-or-pos}
 use native.Mathlib.Nat.{dvd-refl, dvd-zero, one-dvd, dvd-trans, dvd-antisymm, dvd-mod-iff, dvd-mul-right, pos-of-dvd-of-pos}

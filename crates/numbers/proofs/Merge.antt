@@ -4,19 +4,18 @@ use mathlib.Core.Path.{_≡_, refl, sym, _∙_, ap, subst}
 use mathlib.Core.Logic.{_⊎_, inl, inr}
 use mathlib.Core.List.{List, [], _∷_, _++_}
 use Prim.Native.Nat.{ℕ, zero, suc, _+_, _-_, _*_, _/_, min, _≤_, _<_, _∣_, zero-le}
-use native.Mathlib.Nat.{dvd-refl, dvd-trans, dvd-mul-left, dvd-of-mul-dvd-mul-left, mul-dvd-mul-left, mul-div-cancel', mul-le-mul-left, mul-le-mul-right, mul-pos, mul-comm, div-one, div-eq-of-eq-mul-right, div-lt-iff-lt-mul, le-div-iff-mul-le, div-mul-le-self, div-le-of-le-mul, mul-div-le, zero-div, le-of-dvd, le-antisymm, le-refl, pos-of-dvd-of-pos}
+use native.Mathlib.Nat.{dvd-refl, dvd-trans, dvd-mul-left, dvd-of-mul-dvd-mul-left, mul-dvd-mul-left, mul-div-cancel', mul-le-mul-left, mul-le-mul-right, mul-pos, div-one, div-eq-of-eq-mul-right, div-lt-iff-lt-mul, le-div-iff-mul-le, div-mul-le-self, div-le-of-le-mul, mul-div-le, zero-div, le-of-dvd}
 use native.Mathlib.Decide.{decLe, decLt, ℕ-discrete}
-use native.Mathlib.Numerals.{add-one}
 use native.Mathlib.Omega.{arith}
-use lib.ListN.{length, getD, set, replicate, length-append, length-replicate, getD-replicate, List·getD-append, List·getD-eq-default}
+use lib.ListN.{length, getD, set, replicate, length-append, List·getD-append}
 use lib.Seq.{set-at, append-snoc, getD-append-add}
 use Rattle.numbers.specs.Gcd.{gcd}
 use Rattle.numbers.specs.Sums.{same}
 use Rattle.numbers.specs.LeastFactor.{Prime}
 use Rattle.numbers.specs.Divisors.{divisorsTo, divisorsOf, Listed}
-use Rattle.numbers.proofs.Gcd.{gauss, gcd-dvd-left, gcd-dvd-right, gcd-pos, gcd-comm}
+use Rattle.numbers.proofs.Gcd.{gauss, gcd-dvd-left, gcd-dvd-right, gcd-pos}
 use Rattle.numbers.proofs.Sums.{same-yes, same-no}
-use Rattle.numbers.proofs.Divisors.{Entry, Next, entry-at, entry-next, divisorsTo-zero, divisorsTo-next, divisorsTo-none, divisorsTo-all, length-divisorsTo-mono, length-divisorsTo-lt, length-divisorsOf-le}
+use Rattle.numbers.proofs.Divisors.{Next, entry-next, divisorsTo-zero, divisorsTo-next, divisorsTo-none, divisorsTo-all, length-divisorsTo-mono, length-divisorsTo-lt, length-divisorsOf-le}
 
 factor-pos : {f : ℕ} → Prime f → zero < f
 factor-pos F = omega (arith, F .above-one)

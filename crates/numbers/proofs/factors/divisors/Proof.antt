@@ -1,5 +1,4 @@
 -- `divisors` meets its contract: its checks are those of `divisorsAnswer`.
-use mathlib.Core.Path.{_≡_}
 use native.Mathlib.Omega.{arith}
 use borrow.Author.Needs.{needs}
 use Rattle.numbers.proofs.Divisors.{answer-zero, answer-above, answer-inside}

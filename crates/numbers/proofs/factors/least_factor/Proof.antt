@@ -1,6 +1,5 @@
 -- `least_factor` meets its contract: the two checks are those of `leastFactorAnswer`.
-use mathlib.Core.Path.{_≡_, sym, _∙_}
-use Prim.Native.Nat.{ℕ}
+use mathlib.Core.Path.{sym, _∙_}
 use native.Mathlib.Omega.{arith}
 use borrow.Author.Needs.{needs}
 use Rattle.numbers.proofs.LeastFactor.{answer-below, answer-above, answer-inside}
