@@ -52,7 +52,7 @@ dist-congruent m x y d = go (decLe x y)
     go (yes h) = sub-congruent m x y h (subst (λ (n : ℕ). m ∣ n) (omega arith) d)
     go (no h) = sym (sub-congruent m y x (omega arith) (subst (λ (n : ℕ). m ∣ n) (omega arith) d))
 
--- ---- N5: sums, products and divisors of the modulus
+-- ---- sums, products and divisors of the modulus
 
 pub congruent-add : (m x x′ y y′ : ℕ) → Congruent m x x′ → Congruent m y y′ → Congruent m (x + y) (x′ + y′)
 congruent-add m x x′ y y′ e f = add-mod x y m ∙ ap₂ (λ (a b : ℕ). (a + b) % m) e f ∙ sym (add-mod x′ y′ m)

@@ -7,10 +7,10 @@ use Prim.Native.Nat.{ℕ, zero, suc, _+_, _-_, _/_, _%_, _≤_, _<_, _∣_}
 use native.Mathlib.Nat.{eq-or-lt-of-le, not-suc-le-zero, le-of-suc-le-suc, le-refl, le-antisymm, le-of-dvd, pos-of-dvd-of-pos, dvd-of-mod-eq-zero, mod-eq-zero-of-dvd, mul-div-cancel', mul-le-mul, mul-le-mul-left, mul-lt-mul-of-pos-right, lt-of-not-le}
 use native.Mathlib.Decide.{decLe, decLt, decDvd}
 use native.Mathlib.Omega.{arith}
-use lib.ListN.{length, getD, length-append, List·getD-append}
-use lib.Seq.{getD-append-seam}
+use lib.ListN.{length, getD, take, replicate, length-append, List·getD-append}
+use lib.Seq.{getD-append-seam, getD-append-add, take-at}
 use borrow.Author.Tests.{eq-eqb, ne-eqb, le-leb, lt-leb}
-use Rattle.numbers.specs.Divisors.{divisorsTo, divisorsOf, divisorsAnswer}
+use Rattle.numbers.specs.Divisors.{divisorsTo, divisorsOf, divisorsAnswer, Listed}
 use Rattle.numbers.proofs.Divides.{quotient-pos}
 
 -- ---- one number more
@@ -212,14 +212,36 @@ length-divisorsOf-le n h = go (decLe (length (divisorsOf n)) 127)
 
 -- ---- the answer of `divisors`, up to 4096 and above
 
-pub answer-zero : divisorsAnswer 0 ≡ []
+pub divisorsAnswer-zero : divisorsAnswer 0 ≡ []
 unfolding divisorsAnswer divisorsOf divisorsTo
-answer-zero = refl
+divisorsAnswer-zero = refl
 
-pub answer-above : (n : ℕ) → 4096 < n → divisorsAnswer n ≡ []
+pub divisorsAnswer-above : (n : ℕ) → 4096 < n → divisorsAnswer n ≡ []
 unfolding divisorsAnswer
-answer-above n h = rw (lt-leb n 4096 h)
+divisorsAnswer-above n h = rw (lt-leb n 4096 h)
 
-pub answer-inside : (n : ℕ) → n ≤ 4096 → divisorsAnswer n ≡ divisorsOf n
+pub divisorsAnswer-inside : (n : ℕ) → n ≤ 4096 → divisorsAnswer n ≡ divisorsOf n
 unfolding divisorsAnswer
-answer-inside n h = rw (le-leb n 4096 h)
+divisorsAnswer-inside n h = rw (le-leb n 4096 h)
+
+-- ---- a list in places, as `divisors` returns it
+
+pub listed-inside : (xs : List ℕ) (count : ℕ) (of : List ℕ) → Listed xs count of → (i : ℕ) → i < length xs → getD of i 0 ≡ getD xs i 0
+listed-inside xs count of P i h = ap (λ (l : List ℕ). getD l i 0) (P .places) ∙ List·getD-append xs (replicate (128 - length xs) 0) 0 i h
+
+pub listed-behind : (xs : List ℕ) (count : ℕ) (of : List ℕ) → Listed xs count of → (i : ℕ) → length xs ≤ i → getD of i 0 ≡ 0
+listed-behind xs count of P i h = ap (λ (l : List ℕ). getD l i 0) (P .places) ∙ behind
+  where
+    zeros : (k j : ℕ) → getD {A = ℕ} (replicate k 0) j 0 ≡ 0
+    zeros zero j = refl
+    zeros (suc k) zero = refl
+    zeros (suc k) (suc j) = zeros k j
+
+    behind : getD (xs ++ replicate (128 - length xs) 0) i 0 ≡ 0
+    behind =
+        let e : length xs + (i - length xs) ≡ i = omega arith in
+        ap (λ (k : ℕ). getD (xs ++ replicate (128 - length xs) 0) k 0) (sym e)
+        ∙ getD-append-add xs (replicate (128 - length xs) 0) (i - length xs) 0 ∙ zeros (128 - length xs) (i - length xs)
+
+pub listed-take : (xs : List ℕ) (count : ℕ) (of : List ℕ) → Listed xs count of → take count of ≡ xs
+listed-take xs count of P = ap (take count) (P .places) ∙ take-at xs (replicate (128 - length xs) 0) count (sym (P .counted))

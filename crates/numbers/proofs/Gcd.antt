@@ -8,7 +8,7 @@ use mathlib.Core.Logic.{_⊎_, inl, inr}
 use Rattle.numbers.specs.Gcd.{gcd, euclid}
 use Rattle.numbers.proofs.Divides.{quotient-pos}
 
--- ---- what makes it the greatest common divisor (N1)
+-- ---- what makes it the greatest common divisor
 
 -- a divisor of the two numbers after a step divides the first number before it
 step-back : (c a b : ℕ) → c ∣ b → c ∣ a % b → c ∣ a
@@ -120,7 +120,7 @@ gcd-of-dvd a b h = gcd-unique a a b (dvd-refl a) h (λ c ha hb. ha)
 pub dvd-gcd-mul : (n a b c : ℕ) → n ∣ a * c → n ∣ b * c → n ∣ gcd a b * c
 dvd-gcd-mul n a b c ha hb = rw (← gcd-mul-right a b c) (dvd-gcd n (a * c) (b * c) ha hb)
 
--- N2, Gauss: what a does not share with b it must find in c
+-- Gauss: what a does not share with b it must find in c
 pub gauss : (a b c : ℕ) → zero < a → a ∣ b * c → a / gcd a b ∣ c
 gauss a b c h d =
     dvd-of-mul-dvd-mul-left (a / gcd a b) (gcd-pos a b h)
@@ -132,7 +132,7 @@ gauss-back a b c d =
     dvd-trans a (rw (gcd-split a b) at (mul-dvd-mul-left (a / gcd a b) (gcd a b) d))
     (mul-dvd-mul-right (gcd a b) (gcd-dvd-right a b) c)
 
--- N3: the gcd with a product, one factor after the other
+-- the gcd with a product, one factor after the other
 pub gcd-mul : (a b c : ℕ) → gcd a (b * c) ≡ gcd a b * gcd (a / gcd a b) c
 gcd-mul a b c = dvd-antisymm there back ∙ split
   where
@@ -151,6 +151,6 @@ gcd-mul a b c = dvd-antisymm there back ∙ split
     split : gcd a (gcd a b * c) ≡ gcd a b * gcd (a / gcd a b) c
     split = ap (λ (n : ℕ). gcd n (gcd a b * c)) (sym (gcd-split a b)) ∙ gcd-mul-left (gcd a b) (a / gcd a b) c
 
--- N4: of a factor only what it shares with p is needed
+-- of a factor only what it shares with p is needed
 pub dvd-gcd-factor : (p x y : ℕ) → p ∣ x * y → p ∣ gcd x p * y
 dvd-gcd-factor p x y h = dvd-gcd-mul p x p y h (dvd-mul-right p y)

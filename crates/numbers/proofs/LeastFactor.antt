@@ -91,14 +91,14 @@ module _ {n done rest : ℕ} (S : Factoring n done rest) where
 
 -- ---- the answer of `least_factor`, in the table's range and outside
 
-pub answer-below : (n : ℕ) → n < 2 → leastFactorAnswer n ≡ 0
+pub leastFactorAnswer-below : (n : ℕ) → n < 2 → leastFactorAnswer n ≡ 0
 unfolding leastFactorAnswer
-answer-below n h = rw (lt-ltb n 2 h)
+leastFactorAnswer-below n h = rw (lt-ltb n 2 h)
 
-pub answer-above : (n : ℕ) → 4096 < n → leastFactorAnswer n ≡ 0
+pub leastFactorAnswer-above : (n : ℕ) → 4096 < n → leastFactorAnswer n ≡ 0
 unfolding leastFactorAnswer
-answer-above n h = rw (le-ltb n 2 (omega arith), lt-ltb 4096 n h)
+leastFactorAnswer-above n h = rw (le-ltb n 2 (omega arith), lt-ltb 4096 n h)
 
-pub answer-inside : (n : ℕ) → 1 < n → n ≤ 4096 → leastFactorAnswer n ≡ leastFactor n
+pub leastFactorAnswer-inside : (n : ℕ) → 1 < n → n ≤ 4096 → leastFactorAnswer n ≡ leastFactor n
 unfolding leastFactorAnswer
-answer-inside n low high = rw (le-ltb n 2 low, le-ltb 4096 n high)
+leastFactorAnswer-inside n low high = rw (le-ltb n 2 low, le-ltb 4096 n high)

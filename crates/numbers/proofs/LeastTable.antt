@@ -22,10 +22,10 @@ clear zero d n = true
 clear (suc k) d n = ltb 0 (n % d) && clear k (suc d) n
 
 -- f is the least factor of n; places 0 and 1 hold nothing
-abbrev pub entry : ℕ → ℕ → Bool
-entry zero f = true
-entry (suc zero) f = true
-entry (suc (suc n)) f = ltb 1 f && (eqb (suc (suc n) % f) 0 && clear (min (f - 2) 63) 2 (suc (suc n)))
+abbrev pub correct : ℕ → ℕ → Bool
+correct zero f = true
+correct (suc zero) f = true
+correct (suc (suc n)) f = ltb 1 f && (eqb (suc (suc n) % f) 0 && clear (min (f - 2) 63) 2 (suc (suc n)))
 
 clear-none : (k d n : ℕ) → clear k d n ≡ true → (e : ℕ) → d ≤ e → e < d + k → ¬ (e ∣ n)
 clear-none zero d n t e low high h = omega arith
@@ -57,10 +57,10 @@ module _ (n f : ℕ) (above : 1 < f) (f-dvd : f ∣ n) (none : clear (min (f - 2
   none-below d hd dn (yes l) (yes s) = absurd (tested d hd l s dn)
   none-below d hd dn (yes l) (no q) = absurd (cofactor d hd dn l (omega arith))
 
-entry-least : (n f : ℕ) → entry n f ≡ true → 1 < n → n < 4225 → LeastFactor n f
-entry-least zero f t low small = absurd (omega arith)
-entry-least (suc zero) f t low small = absurd (omega arith)
-entry-least (suc (suc k)) f t low small =
+correct-least : (n f : ℕ) → correct n f ≡ true → 1 < n → n < 4225 → LeastFactor n f
+correct-least zero f t low small = absurd (omega arith)
+correct-least (suc zero) f t low small = absurd (omega arith)
+correct-least (suc (suc k)) f t low small =
     let n : ℕ = suc (suc k) in
     let none : Bool = clear (min (f - 2) 63) 2 n in
     let (above, rest) = and-eq-true-iff (ltb 1 f) (eqb (n % f) 0 && none) .0 t in
@@ -70,5 +70,5 @@ entry-least (suc (suc k)) f t low small =
     record { above-one = f-low; divides = f-dvd; least = λ d hd dn. none-below n f f-low f-dvd others low small d hd dn (decLt d f) (decLt d 65) }
 
 -- a table that passes the test at each place holds least factors
-pub table-least : (xs : List ℕ) → every entry 0 xs ≡ true → (n : ℕ) → n < length xs → 1 < n → n < 4225 → LeastFactor n (getD xs n 0)
-table-least xs t n h low small = entry-least n (getD xs n 0) (every-at entry xs t n h) low small
+pub table-least : (xs : List ℕ) → every correct 0 xs ≡ true → (n : ℕ) → n < length xs → 1 < n → n < 4225 → LeastFactor n (getD xs n 0)
+table-least xs t n h low small = correct-least n (getD xs n 0) (every-at correct xs t n h) low small

@@ -7,15 +7,15 @@ use Prim.Native.Nat.{ℕ, zero, suc, _+_, _-_, _*_, _/_, min, _≤_, _<_, _∣_,
 use native.Mathlib.Nat.{dvd-refl, dvd-trans, dvd-mul-left, dvd-of-mul-dvd-mul-left, mul-dvd-mul-left, mul-div-cancel', mul-le-mul-left, mul-le-mul-right, mul-pos, div-one, div-eq-of-eq-mul-right, div-lt-iff-lt-mul, le-div-iff-mul-le, div-mul-le-self, div-le-of-le-mul, mul-div-le, zero-div, le-of-dvd}
 use native.Mathlib.Decide.{decLe, decLt, ℕ-discrete}
 use native.Mathlib.Omega.{arith}
-use lib.ListN.{length, getD, set, replicate, length-append, List·getD-append}
-use lib.Seq.{set-at, append-snoc, getD-append-add}
+use lib.ListN.{length, getD, set, replicate, length-append}
+use lib.Seq.{set-at, append-snoc}
 use Rattle.numbers.specs.Gcd.{gcd}
 use Rattle.numbers.specs.Sums.{same}
 use Rattle.numbers.specs.LeastFactor.{Prime}
 use Rattle.numbers.specs.Divisors.{divisorsTo, divisorsOf, Listed}
 use Rattle.numbers.proofs.Gcd.{gauss, gcd-dvd-left, gcd-dvd-right, gcd-pos}
 use Rattle.numbers.proofs.Sums.{same-yes, same-no}
-use Rattle.numbers.proofs.Divisors.{Next, entry-next, divisorsTo-zero, divisorsTo-next, divisorsTo-none, divisorsTo-all, length-divisorsTo-mono, length-divisorsTo-lt, length-divisorsOf-le}
+use Rattle.numbers.proofs.Divisors.{listed-inside, listed-behind, Next, entry-next, divisorsTo-zero, divisorsTo-next, divisorsTo-none, divisorsTo-all, length-divisorsTo-mono, length-divisorsTo-lt, length-divisorsOf-le}
 
 factor-pos : {f : ℕ} → Prime f → zero < f
 factor-pos F = omega (arith, F .above-one)
@@ -34,23 +34,6 @@ dvd-prime-mul f m e F he d = go (decLt 1 (gcd e f))
         inl (subst (λ (x : ℕ). x ∣ m) (ap (λ (g : ℕ). e / g) one ∙ div-one e) (gauss e f m he d))
 
 -- ---- a list in places
-
-listed-inside : (xs : List ℕ) (count : ℕ) (of : List ℕ) → Listed xs count of → (i : ℕ) → i < length xs → getD of i 0 ≡ getD xs i 0
-listed-inside xs count of P i h = ap (λ (l : List ℕ). getD l i 0) (P .places) ∙ List·getD-append xs (replicate (128 - length xs) 0) 0 i h
-
-listed-behind : (xs : List ℕ) (count : ℕ) (of : List ℕ) → Listed xs count of → (i : ℕ) → length xs ≤ i → getD of i 0 ≡ 0
-listed-behind xs count of P i h = ap (λ (l : List ℕ). getD l i 0) (P .places) ∙ behind
-  where
-    zeros : (k j : ℕ) → getD {A = ℕ} (replicate k 0) j 0 ≡ 0
-    zeros zero j = refl
-    zeros (suc k) zero = refl
-    zeros (suc k) (suc j) = zeros k j
-
-    behind : getD (xs ++ replicate (128 - length xs) 0) i 0 ≡ 0
-    behind =
-        let e : length xs + (i - length xs) ≡ i = omega arith in
-        ap (λ (k : ℕ). getD (xs ++ replicate (128 - length xs) 0) k 0) (sym e)
-        ∙ getD-append-add xs (replicate (128 - length xs) 0) (i - length xs) 0 ∙ zeros (128 - length xs) (i - length xs)
 
 pub listed-none : Listed [] 0 (replicate 128 0)
 listed-none = record { counted = refl; places = refl }

@@ -1,4 +1,4 @@
--- Counting residues in a run of consecutive numbers (N6, N7).
+-- Counting residues in a run of consecutive numbers.
 use mathlib.Core.Path.{_≡_, refl, sym, _∙_, ap, subst}
 use mathlib.Core.Logic.{_⊎_, inl, inr}
 use Prim.Native.Nat.{ℕ, zero, _+_, _-_, _*_, _/_, _%_, _≤_, _<_, _∣_}
@@ -14,7 +14,7 @@ use Rattle.numbers.proofs.Bezout.{bezout}
 use Rattle.numbers.proofs.Congruence.{Congruent, congruent-of-dvd, congruent-add, congruent-mul-left, congruent-cancel-add, congruent-cancel-mul, congruent-lcm, congruent-sub, add-multiple}
 use Rattle.numbers.proofs.Sums.{sum-ext, sum-zero, sum-periods, sum-shift, count-one, same-yes, same-no, both-yes, both-no}
 
--- N6: among b consecutive numbers, each residue of a divisor m of b is met b / m times
+-- among b consecutive numbers, each residue of a divisor m of b is met b / m times
 pub count-residue : (b m Y c : ℕ) → m ∣ b → c < m → sum b (λ i. same ((i + Y) % m) c) ≡ b / m
 count-residue b m Y c d h =
     let f : ℕ → ℕ = λ y. same (y % m) c in
@@ -25,11 +25,11 @@ count-residue b m Y c d h =
     ap (λ (n : ℕ). sum n (λ i. f (i + Y))) (sym (div-mul-cancel m d)) ∙ run
     ∙ ap (λ (n : ℕ). b / m * n) (sum-shift Y m f period ∙ one) ∙ mul-one (b / m)
 
--- the same with any number for the residue. A start below zero, U - V, is counted with Y = U and c + V for c; in N7 with e + V for e and A + t * V for A
+-- the same with any number for the residue. A start below zero, U - V, is counted with Y = U and c + V for c; in count-joint with e + V for e and A + t * V for A
 pub count-congruent : (b m Y c : ℕ) → m ∣ b → zero < m → sum b (λ i. same ((i + Y) % m) (c % m)) ≡ b / m
 count-congruent b m Y c d h = count-residue b m Y (c % m) d (mod-lt c h)
 
--- ---- N7: two conditions at once on the numbers of a run
+-- ---- two conditions at once on the numbers of a run
 
 -- 1 where x ~ e (mod m) and A ~ c + t * x (mod r), else 0
 unfoldable pub joint : (m r t A c e : ℕ) → ℕ → ℕ
@@ -118,7 +118,7 @@ module _ (m g t A c e : ℕ) where
   count-no-solutions b Y disagree =
       sum-ext b (λ i. joint m (t * g) t A c e (i + Y)) (λ i. zero) (λ i l. joint-is-none disagree (i + Y)) ∙ sum-zero b
 
--- N7: where the residues agree, each run of b numbers has b / lcm m g solutions, wherever it starts and whatever the residues
+-- where the residues agree, each run of b numbers has b / lcm m g solutions, wherever it starts and whatever the residues
 pub count-joint : (b m g t r Y A c e : ℕ) → m ∣ b → g ∣ b → t * g ≡ r → zero < r
     → Congruent (gcd (t * m) r) A (c + t * e) → sum b (λ i. joint m r t A c e (i + Y)) ≡ b / lcm m g
 count-joint b m g t r Y A c e mb gb tg =
