@@ -9,3 +9,4 @@ pub mod Slabs
 pub mod Chains
 pub mod Moduli
 pub mod Rows
+pub mod GridSums
