@@ -10,3 +10,4 @@ pub mod Chains
 pub mod Moduli
 pub mod Rows
 pub mod GridSums
+pub mod Peel
