@@ -11,3 +11,4 @@ pub mod Moduli
 pub mod Rows
 pub mod GridSums
 pub mod Peel
+pub mod Evenness
