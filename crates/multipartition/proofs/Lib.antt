@@ -12,3 +12,4 @@ pub mod Rows
 pub mod GridSums
 pub mod Peel
 pub mod Evenness
+pub mod Matrix
