@@ -13,3 +13,4 @@ pub mod GridSums
 pub mod Peel
 pub mod Evenness
 pub mod Matrix
+pub mod Coordinates
