@@ -263,10 +263,10 @@ length-finishedRows (b ∷ cuts) moduli = ap suc (length-finishedRows cuts (rest
 
 -- ---- the owner
 
-pub owner-down : (p neg b1 i1 : ℕ) (cuts x : List ℕ) → zero < p → p ∣ neg + 1 → Even p (b1 ∷ cuts) → length x ≡ length cuts
+pub ownerOf-is-ownerDown : (p neg b1 i1 : ℕ) (cuts x : List ℕ) → zero < p → p ∣ neg + 1 → Even p (b1 ∷ cuts) → length x ≡ length cuts
     → ownerOf p (b1 ∷ cuts) (i1 ∷ reverse x) ≡ ownerDown neg p (reverse cuts) i1 x
 unfolding ownerOf ownerAt matrixOf moduliOf rowsOf numberFrom coordinates
-owner-down p neg b1 i1 cuts x l n even e =
+ownerOf-is-ownerDown p neg b1 i1 cuts x l n even e =
     ap (numberFrom 0 (moduliOf p (b1 ∷ cuts)))
     (coordinatesAt-remainders (length (b1 ∷ cuts)) (moduliOf p (b1 ∷ cuts)) (rowsOf (b1 ∷ cuts) (moduliOf p (b1 ∷ cuts))) (i1 ∷ reverse x)
     (ap suc (length-reverse x ∙ e)))

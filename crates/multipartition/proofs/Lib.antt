@@ -14,3 +14,4 @@ pub mod Peel
 pub mod Evenness
 pub mod Matrix
 pub mod Coordinates
+pub mod Owners
