@@ -15,3 +15,4 @@ pub mod Evenness
 pub mod Matrix
 pub mod Coordinates
 pub mod Owners
+pub mod Neighbours
