@@ -1,0 +1,33 @@
+-- The lists of a plan's layout, read by places, counted from 0, in the plan's own arrays.
+use mathlib.Core.Path.{_≡_, refl, sym, ap, _∙_}
+use mathlib.Core.List.{List, [], _∷_}
+use Prim.Native.Nat.{ℕ, zero, suc, _+_, _*_, _≤_, _<_}
+use native.Mathlib.Nat.{zero-add}
+use native.Mathlib.Omega.{arith}
+use lib.ListN.{length, getD, take, drop}
+use lib.Seq.{getD-take, getD-drop}
+use Rattle.multipartition.specs.Plans.{entryAt}
+use Rattle.layout.specs.Plans.{rowsFrom}
+use Rattle.layout.specs.Shaped.{entryOf}
+
+pub length-rows : (d i n : ℕ) (matrix : List ℕ) → length (rowsFrom d i n matrix) ≡ n
+unfolding rowsFrom
+length-rows d i zero matrix = refl
+length-rows d i (suc n) matrix = ap suc (length-rows d (suc i) n matrix)
+
+-- row r of those from row i on
+pub row-from : (d i n : ℕ) (matrix : List ℕ) (r : ℕ) → r < n → getD (rowsFrom d i n matrix) r [] ≡ take d (drop ((i + r) * 5) matrix)
+unfolding rowsFrom
+row-from d i zero matrix r h = absurd (omega arith)
+row-from d i (suc n) matrix zero h = let e : i * 5 ≡ (i + 0) * 5 = omega arith in rw e
+row-from d i (suc n) matrix (suc r) h =
+    let e : (suc i + r) * 5 ≡ (i + suc r) * 5 = omega arith in
+    row-from d (suc i) n matrix r (omega arith) ∙ ap (λ (at : ℕ). take d (drop at matrix)) e
+
+-- row i of a layout's matrix
+pub row-at : (d : ℕ) (matrix : List ℕ) (i : ℕ) → i < d → getD (rowsFrom d 0 d matrix) i [] ≡ take d (drop (i * 5) matrix)
+row-at d matrix i h = row-from d 0 d matrix i h ∙ ap (λ (r : ℕ). take d (drop (r * 5) matrix)) (zero-add i)
+
+-- its entry in column j
+pub entry-at : (d : ℕ) (matrix : List ℕ) (i j : ℕ) → i < d → j < d → entryAt (rowsFrom d 0 d matrix) i j ≡ entryOf matrix i j
+entry-at d matrix i j hi hj = rw (row-at d matrix i hi, getD-take d (drop (i * 5) matrix) j 0 hj) (getD-drop (i * 5) matrix j 0)
