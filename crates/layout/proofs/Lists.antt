@@ -1,14 +1,14 @@
 -- Lists read by places, counted from 0: the definitions that go through a list, one place more at a time, as a loop goes.
-use mathlib.Core.Path.{_≡_, refl, sym, ap, _∙_}
+use mathlib.Core.Path.{_≡_, refl}
 use mathlib.Core.Bool.{Bool, true, false, _&&_, and-assoc}
-use mathlib.Core.List.{List, [], _∷_, _++_}
+use mathlib.Core.List.{List, [], _∷_}
 use mathlib.Core.Logic.{⊎-elim}
 use Prim.Native.Nat.{ℕ, zero, suc, _+_, _*_, _^_, _≤_, _<_}
-use native.Mathlib.Nat.{le-refl, le-trans, lt-of-le-of-lt, eq-or-lt-of-le, mul-le-mul, mul-le-mul-right, one-mul, mul-one, pow-suc, pow-zero, pow-le-pow-right}
+use native.Mathlib.Nat.{le-refl, le-trans, lt-of-le-of-lt, eq-or-lt-of-le, mul-le-mul, mul-le-mul-right, mul-one, pow-suc, pow-zero, pow-le-pow-right}
 use native.Mathlib.Numerals.{add-one}
 use native.Mathlib.Omega.{arith}
 use lib.Dec.{lit<}
-use lib.ListN.{length, getD, take, List·getD-eq-default}
+use lib.ListN.{length, getD, take}
 use lib.Seq.{take-suc}
 use Rattle.numbers.specs.Products.{product}
 use Rattle.numbers.proofs.Products.{product-append}

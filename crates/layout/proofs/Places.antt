@@ -1,14 +1,15 @@
 -- The lists of a plan's layout, read by places, counted from 0, in the plan's own arrays.
-use mathlib.Core.Path.{_≡_, refl, sym, ap, _∙_}
-use mathlib.Core.List.{List, [], _∷_}
-use Prim.Native.Nat.{ℕ, zero, suc, _+_, _*_, _≤_, _<_}
+use mathlib.Core.Path.{_≡_, refl, ap, _∙_}
+use mathlib.Core.List.{List, []}
+use Prim.Native.Nat.{ℕ, zero, suc, _+_, _*_, _<_}
 use native.Mathlib.Nat.{zero-add}
 use native.Mathlib.Omega.{arith}
 use lib.ListN.{length, getD, take, drop}
-use lib.Seq.{getD-take, getD-drop}
+use lib.Seq.{getD-take, getD-drop, length-take-le}
 use Rattle.multipartition.specs.Plans.{entryAt}
-use Rattle.layout.specs.Plans.{rowsFrom}
-use Rattle.layout.specs.Shaped.{entryOf}
+use Rattle.layout.specs.declared.Plan.{Plan}
+use Rattle.layout.specs.Plans.{rowsFrom, layoutOf}
+use Rattle.layout.specs.Shaped.{entryOf, Shaped}
 
 pub length-rows : (d i n : ℕ) (matrix : List ℕ) → length (rowsFrom d i n matrix) ≡ n
 unfolding rowsFrom
@@ -31,3 +32,29 @@ row-at d matrix i h = row-from d 0 d matrix i h ∙ ap (λ (r : ℕ). take d (dr
 -- its entry in column j
 pub entry-at : (d : ℕ) (matrix : List ℕ) (i j : ℕ) → i < d → j < d → entryAt (rowsFrom d 0 d matrix) i j ≡ entryOf matrix i j
 entry-at d matrix i j hi hj = rw (row-at d matrix i hi, getD-take d (drop (i * 5) matrix) j 0 hj) (getD-drop (i * 5) matrix j 0)
+
+-- ---- of a plan
+
+pub extents-length : (plan : Plan) → Shaped plan → length (layoutOf plan .extents) ≡ plan .d
+unfolding layoutOf
+extents-length plan s = length-take-le (plan .d) (plan .extents) (s .extents-long)
+
+pub cuts-length : (plan : Plan) → Shaped plan → length (layoutOf plan .cuts) ≡ plan .d
+unfolding layoutOf
+cuts-length plan s = length-take-le (plan .d) (plan .cuts) (s .cuts-long)
+
+pub moduli-length : (plan : Plan) → Shaped plan → length (layoutOf plan .moduli) ≡ plan .d
+unfolding layoutOf
+moduli-length plan s = length-take-le (plan .d) (plan .moduli) (s .moduli-long)
+
+pub extent-at : (plan : Plan) (k : ℕ) → k < plan .d → getD (layoutOf plan .extents) k 0 ≡ getD (plan .extents) k 0
+unfolding layoutOf
+extent-at plan k h = getD-take (plan .d) (plan .extents) k 0 h
+
+pub cut-at : (plan : Plan) (k : ℕ) → k < plan .d → getD (layoutOf plan .cuts) k 0 ≡ getD (plan .cuts) k 0
+unfolding layoutOf
+cut-at plan k h = getD-take (plan .d) (plan .cuts) k 0 h
+
+pub modulus-at : (plan : Plan) (i : ℕ) → i < plan .d → getD (layoutOf plan .moduli) i 0 ≡ getD (plan .moduli) i 0
+unfolding layoutOf
+modulus-at plan i h = getD-take (plan .d) (plan .moduli) i 0 h

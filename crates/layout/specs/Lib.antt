@@ -1,2 +1,4 @@
 pub mod Plans
 pub mod Shaped
+pub mod Sized
+pub mod Positions
