@@ -16,3 +16,4 @@ pub mod Matrix
 pub mod Coordinates
 pub mod Owners
 pub mod Neighbours
+pub mod Fitting
