@@ -17,3 +17,4 @@ pub mod Coordinates
 pub mod Owners
 pub mod Neighbours
 pub mod Fitting
+pub mod Minimal
