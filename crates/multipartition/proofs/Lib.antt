@@ -18,3 +18,4 @@ pub mod Owners
 pub mod Neighbours
 pub mod Fitting
 pub mod Minimal
+pub mod Rivals
