@@ -19,3 +19,4 @@ pub mod Neighbours
 pub mod Fitting
 pub mod Minimal
 pub mod Rivals
+pub mod Faces
