@@ -20,3 +20,4 @@ pub mod Fitting
 pub mod Minimal
 pub mod Rivals
 pub mod Faces
+pub mod Plans
