@@ -21,3 +21,4 @@ pub mod Minimal
 pub mod Rivals
 pub mod Faces
 pub mod Plans
+pub mod Jobs

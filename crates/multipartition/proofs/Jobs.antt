@@ -1,0 +1,153 @@
+-- What the planner's answer to a job says: a job in range is answered with the cheapest cuts, or refused with 5 where there are none; and a plan
+-- that is answered is in shape.
+use mathlib.Core.Path.{_≡_, refl, sym, ap, _∙_, subst, subst⁻¹}
+use mathlib.Core.Logic.{_↔_}
+use mathlib.Core.Bool.{Bool, true, false, not, cond, _||_}
+use mathlib.Core.List.{List, [], _∷_}
+use mathlib.Core.Option.{Option, none, some}
+use Prim.Native.Nat.{ℕ, zero, suc, _≤_, _<_}
+use native.Mathlib.Nat.{not-suc-le-zero, le-of-suc-le-suc, zero-lt-suc}
+use native.Mathlib.Omega.{arith}
+use borrow.Author.Tests.{eqb-true, eq-eqb, not-false}
+use lib.Dec.{eqb}
+use lib.ListN.{length, getD}
+use Rattle.multipartition.specs.Answers.{Answer, answered, refused}
+use Rattle.multipartition.specs.Cuts.{Fits, Even, cheapest}
+use Rattle.multipartition.specs.Plans.{Layout, layoutWith, between, inShape}
+use Rattle.multipartition.specs.Jobs.{firstOutside, planWith, planAnswer}
+use Rattle.multipartition.proofs.Cheapest.{cheapest-fits, cheapest-even, cheapest-none}
+use Rattle.multipartition.proofs.Plans.{InRange, between-true-iff, layout-in-shape}
+
+-- ---- the checks
+
+Extent : ℕ → Type 0
+Extent n = (1 ≤ n) × (n ≤ 1000000)
+
+-- no extent is out of range, if the first such dimension is 0
+extents-of-firstOutside : (i : ℕ) (extents : List ℕ) → firstOutside (suc i) extents ≡ 0 → (k : ℕ) → k < length extents → Extent (getD extents k 0)
+unfolding firstOutside Extent
+extents-of-firstOutside i [] e k l = absurd (not-suc-le-zero l)
+extents-of-firstOutside i (n ∷ extents) e k l = go (between 1 1000000 n) refl e (extents-of-firstOutside (suc i) extents) k l
+  where
+    go : (t : Bool) → between 1 1000000 n ≡ t → cond t (firstOutside (suc (suc i)) extents) (suc i) ≡ 0
+        → (firstOutside (suc (suc i)) extents ≡ 0 → (k : ℕ) → k < length extents → Extent (getD extents k 0))
+        → (k : ℕ) → k < length (n ∷ extents) → Extent (getD (n ∷ extents) k 0)
+    go true f e later zero l = between-true-iff 1 1000000 n .0 f
+    go true f e later (suc k) l = later e k (le-of-suc-le-suc l)
+    go false f e later k l = absurd (omega arith)
+
+firstOutside-of-extents : (i : ℕ) (extents : List ℕ) → ((k : ℕ) → k < length extents → Extent (getD extents k 0)) → firstOutside i extents ≡ 0
+unfolding firstOutside Extent
+firstOutside-of-extents i [] h = refl
+firstOutside-of-extents i (n ∷ extents) h =
+    rw (between-true-iff 1 1000000 n .1 (h 0 (zero-lt-suc (length extents)))) (firstOutside-of-extents (suc i) extents (λ k l. h (suc k) (omega arith)))
+
+-- a job that passes the lines 1 to 4 of the table
+pub record Passed (p d : ℕ) (extents weights : List ℕ) : Type 0 where
+  pub range : InRange p extents
+  pub extents-many : length extents ≡ d
+  pub weights-many : length weights ≡ d
+
+-- what the answer `plan` to a job says
+pub record Planned (p d : ℕ) (extents weights : List ℕ) (plan : Layout) : Type 0 where
+  pub passed : Passed p d extents weights
+  pub cuts-are : cheapest p extents weights ≡ some (plan .cuts)
+  pub plan-is : plan ≡ layoutWith p extents weights (plan .cuts)
+
+passed-check : (fails : Bool) (number place : ℕ) (later : Answer Layout) (plan : Layout)
+    → cond fails (refused number place) later ≡ answered plan → (fails ≡ false) × (later ≡ answered plan)
+passed-check true number place later plan e = let clash : _≡_ {A = ℕ} 0 1 = cc in absurd (omega arith)
+passed-check false number place later plan e = (refl, e)
+
+or-false : (s t : Bool) → s || t ≡ false → (s ≡ false) × (t ≡ false)
+or-false true t e = let clash : _≡_ {A = ℕ} 0 1 = cc in absurd (omega arith)
+or-false false t e = (refl, e)
+
+module _ (p d : ℕ) (extents weights : List ℕ) where
+  -- a job that passes is answered by the cheapest cuts
+  pub plan-of-passed : Passed p d extents weights → planAnswer p d extents weights ≡ planWith p extents weights (cheapest p extents weights)
+  unfolding planAnswer Extent
+  plan-of-passed job =
+      rw (
+        between-true-iff 2 5 d .1 (subst (λ (n : ℕ). 2 ≤ n) (job .extents-many) (job .range .d-low), subst (λ (n : ℕ). n ≤ 5) (job .extents-many) (job .range .d-high)),
+        between-true-iff 1 4096 p .1 (job .range .p-low, job .range .p-high),
+        eq-eqb (length extents) d (job .extents-many),
+        eq-eqb (length weights) d (job .weights-many),
+        eq-eqb (firstOutside 1 extents) 0 (firstOutside-of-extents 1 extents (λ k l. (job .range .extent-low k l, job .range .extent-high k l))),
+      )
+
+  -- "Refusal 5 is for the jobs with no even, fitting cuts and for those only."
+  pub refused-five-iff : Passed p d extents weights → (planAnswer p d extents weights ≡ refused 5 0) ↔ ((cuts : List ℕ) → Fits extents cuts → Even p cuts → ⊥)
+  unfolding planWith
+  refused-five-iff job = (there, back)
+    where
+      there : planAnswer p d extents weights ≡ refused 5 0 → (cuts : List ℕ) → Fits extents cuts → Even p cuts → ⊥
+      there e cuts fits even = go (cheapest p extents weights) refl (sym (plan-of-passed job) ∙ e)
+        where
+          go : (o : Option (List ℕ)) → cheapest p extents weights ≡ o → planWith p extents weights o ≡ refused 5 0 → ⊥
+          go none f e = cheapest-none p extents weights cuts f fits even
+          go (some u) f e = let clash : _≡_ {A = ℕ} 0 1 = cc in omega arith
+
+      back : ((cuts : List ℕ) → Fits extents cuts → Even p cuts → ⊥) → planAnswer p d extents weights ≡ refused 5 0
+      back h = plan-of-passed job ∙ go (cheapest p extents weights) refl
+        where
+          go : (o : Option (List ℕ)) → cheapest p extents weights ≡ o → planWith p extents weights o ≡ refused 5 0
+          go none f = refl
+          go (some u) f = absurd (h u (cheapest-fits p extents weights u f) (cheapest-even p extents weights u f))
+
+  module _ (plan : Layout) where
+    pub plan-answered : planAnswer p d extents weights ≡ answered plan → Planned p d extents weights plan
+    unfolding planAnswer planWith Extent
+    plan-answered e =
+        let first = passed-check (not (between 2 5 d)) 1 0 after-1 plan e in
+        let second = passed-check (not (between 1 4096 p)) 2 0 after-2 plan (first .1) in
+        let third = passed-check (not (eqb (length extents) d) || not (eqb (length weights) d)) 3 0 after-3 plan (second .1) in
+        let fourth = passed-check (not (eqb (firstOutside 1 extents) 0)) 4 (firstOutside 1 extents) after-4 plan (third .1) in
+        let d-range = between-true-iff 2 5 d .0 (not-false (between 2 5 d) (first .0)) in
+        let p-range = between-true-iff 1 4096 p .0 (not-false (between 1 4096 p) (second .0)) in
+        let many = or-false (not (eqb (length extents) d)) (not (eqb (length weights) d)) (third .0) in
+        let extents-many : length extents ≡ d = eqb-true (length extents) d (not-false (eqb (length extents) d) (many .0)) in
+        let outside : firstOutside 1 extents ≡ 0 = eqb-true (firstOutside 1 extents) 0 (not-false (eqb (firstOutside 1 extents) 0) (fourth .0)) in
+        let made = chosen (cheapest p extents weights) refl (fourth .1) in
+        record {
+          passed = record {
+            range = record {
+              p-low = p-range .0;
+              p-high = p-range .1;
+              d-low = omega (arith, d-range .0);
+              d-high = omega (arith, d-range .1);
+              extent-low = λ k l. extents-of-firstOutside 0 extents outside k l .0;
+              extent-high = λ k l. extents-of-firstOutside 0 extents outside k l .1;
+            };
+            extents-many = extents-many;
+            weights-many = eqb-true (length weights) d (not-false (eqb (length weights) d) (many .1));
+          };
+          cuts-are = made .0;
+          plan-is = made .1;
+        }
+      where
+        after-4 : Answer Layout
+        after-4 = planWith p extents weights (cheapest p extents weights)
+
+        after-3 : Answer Layout
+        after-3 = cond (not (eqb (firstOutside 1 extents) 0)) (refused 4 (firstOutside 1 extents)) after-4
+
+        after-2 : Answer Layout
+        after-2 = cond (not (eqb (length extents) d) || not (eqb (length weights) d)) (refused 3 0) after-3
+
+        after-1 : Answer Layout
+        after-1 = cond (not (between 1 4096 p)) (refused 2 0) after-2
+
+        chosen : (o : Option (List ℕ)) → cheapest p extents weights ≡ o → planWith p extents weights o ≡ answered plan
+            → (cheapest p extents weights ≡ some (plan .cuts)) × (plan ≡ layoutWith p extents weights (plan .cuts))
+        chosen none f e = let clash : _≡_ {A = ℕ} 0 1 = cc in absurd (omega arith)
+        chosen (some cuts) f e =
+            let is : plan ≡ layoutWith p extents weights cuts = cc in
+            let cuts-is : cuts ≡ plan .cuts = sym (ap (λ (l : Layout). l .cuts) is) in
+            (f ∙ ap some cuts-is, is ∙ ap (layoutWith p extents weights) cuts-is)
+
+    -- a plan that is answered is in shape
+    pub plan-in-shape : planAnswer p d extents weights ≡ answered plan → inShape plan ≡ true
+    plan-in-shape e =
+        let made = plan-answered e in
+        subst⁻¹ (λ (l : Layout). inShape l ≡ true) (made .plan-is) (layout-in-shape p extents weights (plan .cuts) (made .passed .range) (made .cuts-are))
