@@ -1,0 +1,265 @@
+//! Inputs for the comparison: those of document 01, all short texts, random jobs, damaged lines.
+
+use crate::cuts::elementary;
+use crate::random::Random;
+
+/// The grids and remarks of document 01, the limits of its ranges, and jobs of the largest size.
+pub fn fixed() -> Vec<Vec<u8>> {
+    let lines = [
+        "4 3 8 8 8 1 1 1",
+        "1 2 1 1 5 7",
+        "2 2 2 2 0 0",
+        "2 2 1 9 1 1",
+        "4 3 1 3 9 1 1 1",
+        "5 3 4 9 9 1 1 1",
+        "6 3 9 9 9 1 1 1",
+        "6 3 1 9 9 1 1 1",
+        "6 3 9 9 9 1 1 100",
+        "8 3 9 9 9 1 1 1",
+        "4096 2 4096 4096 1 1",
+        "4096 2 4096 4095 1 1",
+        "4 6 1 1 1 1 1 1 1 1 1 1",
+        "4 1 1 1",
+        "4 0",
+        "0 2 1 1 1 1",
+        "4097 2 1 1 1 1",
+        "4294967295 4294967295",
+        "4 2 1000000 1000001 1 1",
+        "4 2 0 0 1 1",
+        "4 2 1000000 1000000 1 1",
+        "4 3 9 9 9 0 0 0",
+        "30 3 99 99 99 1 1 1",
+        "4096 5 1000000 1000000 1000000 1000000 1000000 4294967295 4294967295 4294967295 4294967295 4294967295",
+        "4096 5 1000000 1000000 1000000 1000000 1000000 0 0 0 0 0",
+        "4096 3 1000000 1000000 1000000 1 1 1",
+        "4095 4 4095 4095 4095 4095 1 1 1 4294967295",
+        "4093 2 4093 4093 4294967295 4294967295",
+        "4093 5 1 4093 1 4093 1 1 2 3 4 5",
+        "3360 5 1000000 1000000 1000000 1000000 1000000 1 10 100 1000 10000",
+        "2520 5 1000000 1000000 1000000 1000000 1000000 0 0 1 1 1",
+    ];
+    lines
+        .iter()
+        .map(|text| format!("{text}\n").into_bytes())
+        .collect()
+}
+
+/// All texts of up to four of these bytes: what a reader meets first.
+pub fn short_texts() -> Vec<Vec<u8>> {
+    let bytes = b"01 \n-";
+    let mut all: Vec<Vec<u8>> = vec![Vec::new()];
+    let mut from = 0;
+    for _ in 0..4 {
+        let to = all.len();
+        for at in from..to {
+            for &byte in bytes {
+                all.push([&all[at][..], &[byte]].concat());
+            }
+        }
+        from = to;
+    }
+    all
+}
+
+/// A job line: mostly jobs with an answer or refusal 5, some with refusals 1 to 4.
+pub fn job(random: &mut Random) -> Vec<u8> {
+    let mut numbers = match random.between(0, 9) {
+        0..=5 => small_job(random),
+        6..=7 => wide_job(random),
+        _ => tight_job(random),
+    };
+    if random.once_in(8) {
+        spoil(random, &mut numbers);
+    }
+    line(&numbers)
+}
+
+/// A grid so small that all its cuts can be tried; refusal 5 is common.
+fn small_job(random: &mut Random) -> Vec<u64> {
+    let d = random.between(2, 5) as usize;
+    let p = match random.between(0, 3) {
+        0 => random.between(1, 12),
+        1 => *random.pick(&[4, 6, 8, 9, 12, 16, 18, 24, 27, 30, 32, 36, 48, 60, 64]),
+        _ => random.between(1, 64),
+    };
+    let side = [150, 28, 12, 7][d - 2];
+    let extents = (0..d).map(|_| random.between(1, side)).collect();
+    let weights = weights(random, d);
+    numbers(p, extents, weights)
+}
+
+/// Any p in a grid of any size.
+fn wide_job(random: &mut Random) -> Vec<u64> {
+    let d = random.between(2, 5) as usize;
+    let p = processors(random);
+    let most = *random.pick(&[20, 100, 4096, 1_000_000]);
+    let extents = (0..d).map(|_| random.between(1, most)).collect();
+    let weights = weights(random, d);
+    numbers(p, extents, weights)
+}
+
+/// A grid in which some even cuts fit exactly or fail by one.
+fn tight_job(random: &mut Random) -> Vec<u64> {
+    let d = random.between(2, 5) as usize;
+    let p = processors(random);
+    let any: Vec<u32> = (0..d).map(|_| random.between(0, 99) as u32).collect();
+    let cuts = elementary(p as u32, &vec![1_000_000; d], &any).expect("a roomy grid has cuts");
+    let mut extents: Vec<u64> = cuts.into_iter().map(u64::from).collect();
+    let k = random.between(0, d as u64 - 1) as usize;
+    match random.between(0, 3) {
+        0 => extents[k] = (extents[k] - 1).max(1),
+        1 => extents[k] += random.between(1, 9),
+        2 => extents[k] *= 2,
+        _ => (),
+    }
+    let weights = weights(random, d);
+    numbers(p, extents, weights)
+}
+
+fn processors(random: &mut Random) -> u64 {
+    if random.once_in(3) {
+        *random.pick(&[
+            720, 1024, 1260, 1680, 2187, 2310, 2520, 3360, 3600, 4032, 4095, 4096,
+        ])
+    } else {
+        random.between(1, 4096)
+    }
+}
+
+fn weights(random: &mut Random, d: usize) -> Vec<u64> {
+    let kind = random.between(0, 5);
+    (0..d)
+        .map(|k| match kind {
+            0 => 1,
+            1 => random.between(0, 2),
+            2 => random.between(0, 50),
+            3 => random.between(0, 4_294_967_295),
+            4 => *random.pick(&[0, 1, 4_294_967_295]),
+            _ => 10u64.pow(k as u32),
+        })
+        .collect()
+}
+
+fn numbers(p: u64, extents: Vec<u64>, weights: Vec<u64>) -> Vec<u64> {
+    let d = extents.len() as u64;
+    [vec![p, d], extents, weights].concat()
+}
+
+/// Makes one or two of refusals 1 to 4 likely.
+fn spoil(random: &mut Random, numbers: &mut Vec<u64>) {
+    for _ in 0..random.between(1, 2) {
+        match random.between(0, 4) {
+            0 => numbers[1] = *random.pick(&[0, 1, 2, 3, 4, 5, 6, 4_294_967_295]),
+            1 => numbers[0] = *random.pick(&[0, 4097, 4_294_967_295]),
+            2 if numbers.len() > 3 => {
+                numbers.pop();
+            }
+            3 if numbers.len() < 12 => numbers.push(random.between(0, 9)),
+            _ => {
+                let at = random.between(2, (numbers.len() as u64 - 1).max(2)) as usize;
+                if let Some(number) = numbers.get_mut(at) {
+                    *number = *random.pick(&[0, 1_000_001, 4_294_967_295]);
+                }
+            }
+        }
+    }
+}
+
+fn line(numbers: &[u64]) -> Vec<u8> {
+    let words: Vec<String> = numbers.iter().map(u64::to_string).collect();
+    (words.join(" ") + "\n").into_bytes()
+}
+
+/// A line that a reader must look at closely: a job line, or any numbers, with some damage.
+pub fn damaged(random: &mut Random) -> Vec<u8> {
+    let mut text = if random.once_in(2) {
+        job(random)
+    } else {
+        let count = random.between(1, 14);
+        let any = |_| {
+            let bits = random.between(0, 33);
+            random.draw() & ((1 << bits) - 1)
+        };
+        line(&(0..count).map(any).collect::<Vec<u64>>())
+    };
+    for _ in 0..random.between(1, 2) {
+        damage(random, &mut text);
+    }
+    text
+}
+
+fn damage(random: &mut Random, text: &mut Vec<u8>) {
+    const BYTES: &[u8] = b"  \n\n0019-+.,\t\r\0x\xff";
+    let at = random.between(0, text.len() as u64) as usize;
+    let byte = *random.pick(BYTES);
+    let words: [&[u8]; 6] = [
+        b"4294967295",
+        b"4294967296",
+        b"42949672950",
+        b"18446744073709551616",
+        b"00",
+        b" 01",
+    ];
+    match random.between(0, 7) {
+        0 => text.insert(at, byte),
+        1 if at < text.len() => {
+            text.remove(at);
+        }
+        2 if at < text.len() => text[at] = byte,
+        3 => text.truncate(at),
+        4 => text.push(byte),
+        5 => {
+            let word = *random.pick(&words);
+            text.splice(at..at, word.iter().copied());
+        }
+        6 => {
+            text.pop();
+        }
+        _ => {
+            let again = text.clone();
+            text.extend(again);
+        }
+    }
+}
+
+#[cfg(test)]
+mod tests {
+    use super::*;
+    use crate::print::answer;
+    use std::collections::BTreeMap;
+
+    /// How often each refusal, or a plan, comes out.
+    fn outcomes(inputs: impl Iterator<Item = Vec<u8>>) -> BTreeMap<String, usize> {
+        let mut counts = BTreeMap::new();
+        for input in inputs {
+            let text = answer(&input);
+            let words: Vec<&str> = text.split_whitespace().take(2).collect();
+            let kind = match words[..] {
+                ["refused", number] => number.to_string(),
+                _ => "plan".to_string(),
+            };
+            *counts.entry(kind).or_insert(0) += 1;
+        }
+        counts
+    }
+
+    #[test]
+    fn jobs_meet_every_job_check() {
+        let mut random = Random::new(3);
+        let counts = outcomes((0..1500).map(|_| job(&mut random)));
+        for kind in ["1", "2", "3", "4", "5", "plan"] {
+            assert!(
+                counts.get(kind).is_some_and(|&count| count >= 10),
+                "{kind}: {counts:?}"
+            );
+        }
+        assert!(!counts.contains_key("10"));
+    }
+
+    #[test]
+    fn damage_mostly_shows() {
+        let mut random = Random::new(4);
+        let counts = outcomes((0..500).map(|_| damaged(&mut random)));
+        assert!(counts["10"] >= 300, "{counts:?}");
+    }
+}

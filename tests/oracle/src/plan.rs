@@ -1,0 +1,234 @@
+//! Jobs, plans, and when a plan is out of shape.
+
+use crate::cuts;
+use crate::matrix;
+use crate::refusal::{self, Refusal};
+
+/// "A plan holds d, p, extents, weights, cuts, cost, moduli, matrix. Places past d are zero in the
+/// planner's answer and are never read."
+#[derive(Clone, Debug, PartialEq, Eq)]
+pub struct Plan {
+    pub d: u32,
+    pub p: u32,
+    pub extents: [u32; 5],
+    pub weights: [u32; 5],
+    pub cuts: [u32; 5],
+    pub cost: u64,
+    pub moduli: [u32; 5],
+    pub matrix: [[u32; 5]; 5],
+}
+
+/// A job becomes a plan, or is refused with the first number of the table that applies.
+pub fn plan_job(p: u32, d: u32, extents: &[u32], weights: &[u32]) -> Result<Plan, Refusal> {
+    check_job(p, d, extents, weights)?;
+    let chosen = cuts::cheapest(p, extents, weights).ok_or(refusal::NO_CUTS)?;
+    let moduli = matrix::moduli(p, &chosen);
+    let rows = matrix::matrix(&chosen, &moduli);
+    let mut plan = Plan {
+        d,
+        p,
+        extents: padded(extents),
+        weights: padded(weights),
+        cuts: padded(&chosen),
+        cost: cuts::cost(&chosen, weights),
+        moduli: padded(&moduli),
+        matrix: [[0; 5]; 5],
+    };
+    for (row, entries) in plan.matrix.iter_mut().zip(rows) {
+        *row = padded(&entries);
+    }
+    Ok(plan)
+}
+
+/// Refusals 1 to 4, in this order.
+pub fn check_job(p: u32, d: u32, extents: &[u32], weights: &[u32]) -> Result<(), Refusal> {
+    if !refusal::dimensions_in_range(d) {
+        return Err(refusal::DIMENSIONS);
+    }
+    if !refusal::processors_in_range(p) {
+        return Err(refusal::PROCESSORS);
+    }
+    if extents.len() != d as usize || weights.len() != d as usize {
+        return Err(refusal::LENGTHS);
+    }
+    match extents.iter().position(|&n| !refusal::extent_in_range(n)) {
+        Some(k) => Err(Refusal::at(refusal::EXTENT, k + 1)),
+        None => Ok(()),
+    }
+}
+
+fn padded(list: &[u32]) -> [u32; 5] {
+    let mut places = [0; 5];
+    places[..list.len()].copy_from_slice(list);
+    places
+}
+
+impl Plan {
+    /// d as a count of places. Only to be asked of a plan in shape.
+    pub fn dimensions(&self) -> usize {
+        self.d as usize
+    }
+
+    /// "tiles = b1 * ... * bd".
+    pub fn tiles(&self) -> u128 {
+        let cuts = &self.cuts[..self.dimensions()];
+        cuts.iter().map(|&b| u128::from(b)).product()
+    }
+
+    /// Refusal 6: "A plan is out of shape if d, p or an extent is out of range, a cut is 0 or above
+    /// its extent or above 4,096, there are more than 16,777,216 tiles, a modulus is 0, the moduli
+    /// don't multiply to p, or a matrix entry is not below its row's modulus."
+    pub fn check_shape(&self) -> Result<(), Refusal> {
+        if self.in_shape() {
+            Ok(())
+        } else {
+            Err(refusal::SHAPE)
+        }
+    }
+
+    fn in_shape(&self) -> bool {
+        if !refusal::dimensions_in_range(self.d) {
+            return false;
+        }
+        let d = self.dimensions();
+        let moduli = &self.moduli[..d];
+        let multiplied: u128 = moduli.iter().map(|&m| u128::from(m)).product();
+        refusal::processors_in_range(self.p)
+            && (0..d).all(|k| refusal::extent_in_range(self.extents[k]))
+            && (0..d).all(|k| 1 <= self.cuts[k] && self.cuts[k] <= self.extents[k].min(4096))
+            && self.tiles() <= 16_777_216
+            && moduli.iter().all(|&m| m != 0)
+            && multiplied == u128::from(self.p)
+            && (0..d).all(|i| self.matrix[i][..d].iter().all(|&entry| entry < moduli[i]))
+    }
+
+    /// Refusal 7, and the dimension's place counted from 0.
+    pub fn check_dimension(&self, dimension: u32) -> Result<usize, Refusal> {
+        if 1 <= dimension && dimension <= self.d {
+            Ok(dimension as usize - 1)
+        } else {
+            Err(refusal::DIMENSION)
+        }
+    }
+
+    /// Refusal 8 for a position: d coordinates, each below its cut.
+    pub fn check_position(&self, position: &[u32]) -> Result<(), Refusal> {
+        let inside = position.iter().zip(&self.cuts).all(|(i, b)| i < b);
+        if position.len() == self.dimensions() && inside {
+            Ok(())
+        } else {
+            Err(refusal::RANGE)
+        }
+    }
+}
+
+/// Refusal 8 for one number: it must be below a limit.
+pub fn check_below(number: u32, limit: u128) -> Result<(), Refusal> {
+    if u128::from(number) < limit {
+        Ok(())
+    } else {
+        Err(refusal::RANGE)
+    }
+}
+
+#[cfg(test)]
+mod tests {
+    use super::*;
+
+    /// A line of "Grids to try".
+    fn grid(p: u32, extents: &[u32], weights: &[u32]) -> Result<Plan, Refusal> {
+        plan_job(p, extents.len() as u32, extents, weights)
+    }
+
+    #[test]
+    fn grids_to_try() {
+        let plan = grid(1, &[1, 1], &[5, 7]).unwrap();
+        assert_eq!((plan.cuts, plan.cost), ([1, 1, 0, 0, 0], 12));
+        let plan = grid(2, &[2, 2], &[0, 0]).unwrap();
+        assert_eq!((plan.cuts, plan.cost), ([2, 2, 0, 0, 0], 0));
+        assert_eq!(plan.matrix[1], [1, 1, 0, 0, 0]);
+        assert_eq!(grid(2, &[1, 9], &[1, 1]), Err(refusal::NO_CUTS));
+        let plan = grid(4, &[8, 8, 8], &[1, 1, 1]).unwrap();
+        assert_eq!((plan.cuts, plan.cost), ([2, 2, 2, 0, 0], 6));
+        assert_eq!(grid(4, &[1, 3, 9], &[1, 1, 1]), Err(refusal::NO_CUTS));
+        let plan = grid(5, &[4, 9, 9], &[1, 1, 1]).unwrap();
+        assert_eq!((plan.cuts, plan.cost), ([1, 5, 5, 0, 0], 11));
+        assert_eq!(plan.matrix[2], [0, 4, 1, 0, 0]);
+        let plan = grid(6, &[9, 9, 9], &[1, 1, 1]).unwrap();
+        assert_eq!((plan.cuts, plan.cost), ([2, 3, 6, 0, 0], 11));
+        assert_eq!(plan.moduli, [1, 1, 6, 0, 0]);
+        assert_eq!(plan.matrix[2], [5, 4, 1, 0, 0]);
+        let plan = grid(6, &[1, 9, 9], &[1, 1, 1]).unwrap();
+        assert_eq!((plan.cuts, plan.cost), ([1, 6, 6, 0, 0], 13));
+        let plan = grid(6, &[9, 9, 9], &[1, 1, 100]).unwrap();
+        assert_eq!((plan.cuts, plan.cost), ([6, 6, 1, 0, 0], 112));
+        assert_eq!(plan.moduli, [1, 6, 1, 0, 0]);
+        let plan = grid(8, &[9, 9, 9], &[1, 1, 1]).unwrap();
+        assert_eq!((plan.cuts, plan.cost), ([2, 4, 4, 0, 0], 10));
+        assert_eq!(plan.moduli, [1, 2, 4, 0, 0]);
+        assert_eq!(plan.matrix[2], [0, 3, 1, 0, 0]);
+        let plan = grid(4096, &[4096, 4096], &[1, 1]).unwrap();
+        assert_eq!(plan.tiles(), 16_777_216);
+        assert_eq!(grid(4096, &[4096, 4095], &[1, 1]), Err(refusal::NO_CUTS));
+    }
+
+    #[test]
+    fn job_checks_in_table_order() {
+        assert_eq!(plan_job(0, 6, &[], &[]), Err(refusal::DIMENSIONS));
+        assert_eq!(plan_job(0, 2, &[], &[]), Err(refusal::PROCESSORS));
+        assert_eq!(plan_job(4097, 2, &[1], &[]), Err(refusal::PROCESSORS));
+        assert_eq!(plan_job(4, 2, &[0, 0, 0], &[1, 1]), Err(refusal::LENGTHS));
+        assert_eq!(plan_job(4, 2, &[0, 0], &[1, 1, 1]), Err(refusal::LENGTHS));
+        assert_eq!(plan_job(4, 2, &[0, 0], &[1, 1]), Err(Refusal::at(4, 1)));
+        assert_eq!(
+            plan_job(4, 2, &[1, 1_000_001], &[1, 1]),
+            Err(Refusal::at(4, 2))
+        );
+        assert_eq!(plan_job(4, 2, &[1, 1], &[1, 1]), Err(refusal::NO_CUTS));
+    }
+
+    #[test]
+    fn plans_are_in_shape_and_damage_is_seen() {
+        let plan = grid(8, &[9, 9, 9], &[1, 1, 1]).unwrap();
+        assert_eq!(plan.check_shape(), Ok(()));
+        let damage: [fn(&mut Plan); 15] = [
+            |plan| plan.d = 1,
+            |plan| plan.d = 6,
+            |plan| plan.p = 0,
+            |plan| plan.p = 4097,
+            |plan| plan.extents[1] = 0,
+            |plan| plan.extents[2] = 1_000_001,
+            |plan| plan.cuts[0] = 0,
+            |plan| plan.cuts[2] = 10,
+            |plan| (plan.cuts[0], plan.extents[0]) = (4097, 5000),
+            |plan| (plan.cuts, plan.extents) = ([4096, 4096, 2, 0, 0], [5000; 5]),
+            |plan| plan.moduli[0] = 0,
+            |plan| plan.moduli[1] = 3,
+            |plan| plan.matrix[0][0] = 1,
+            |plan| plan.matrix[1][2] = 2,
+            |plan| plan.matrix[2][2] = 4,
+        ];
+        for change in damage {
+            let mut changed = plan.clone();
+            change(&mut changed);
+            assert_eq!(changed.check_shape(), Err(refusal::SHAPE), "{changed:?}");
+        }
+    }
+
+    #[test]
+    fn what_the_shape_leaves_free() {
+        let plan = grid(8, &[9, 9, 9], &[1, 1, 1]).unwrap();
+        let free: [fn(&mut Plan); 5] = [
+            |plan| plan.cost = 77,
+            |plan| plan.weights = [u32::MAX; 5],
+            |plan| (plan.cuts[3], plan.extents[4], plan.moduli[3]) = (9, 9, 9),
+            |plan| (plan.matrix[0][3], plan.matrix[4][0]) = (99, 99),
+            |plan| (plan.cuts, plan.extents) = ([4096, 4096, 1, 0, 0], [5000; 5]),
+        ];
+        for change in free {
+            let mut changed = plan.clone();
+            change(&mut changed);
+            assert_eq!(changed.check_shape(), Ok(()), "{changed:?}");
+        }
+    }
+}
