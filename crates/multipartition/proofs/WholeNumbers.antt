@@ -94,6 +94,11 @@ stands-take m neg d u v t x y e f = congruent-cancel-add m (minus u + t * minus 
         (congruent-mul m t t (plus v) (y + minus v) refl (sym f))
         ∙ ap (λ (n : ℕ). n % m) (omega arith)
 
+-- a congruent number stands for the same
+pub stands-congruent : (m : ℕ) (z : ℤ) (n n′ : ℕ) → Congruent m n n′ → Stands m z n → Stands m z n′
+unfolding Stands
+stands-congruent m z n n′ c e = congruent-add m n′ n (minus z) (minus z) (sym c) refl ∙ e
+
 pub stands-remainder : (m : ℕ) (z : ℤ) (n : ℕ) → zero < m → Stands m z n → remainder z m ≡ n % m
 unfolding Stands remainder
 stands-remainder m (pos a) n l e = sym e ∙ ap (λ (x : ℕ). x % m) (omega arith)
