@@ -1,0 +1,5 @@
+pub mod Padding
+pub mod Moduli
+pub mod Rows
+pub mod Taking
+pub mod Finished
