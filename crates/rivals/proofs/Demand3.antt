@@ -1,0 +1,129 @@
+-- Demand 3: the theory's facts about the cheapest cuts, their owners and neighbours, said of what the calls answer.
+use mathlib.Core.Bool.{Bool, true, not}
+use mathlib.Core.List.{List, [], _∷_}
+use mathlib.Core.Logic.{_↔_, _≢_}
+use mathlib.Core.Option.{Option, some}
+use mathlib.Core.Path.{_≡_, refl, sym, ap, ap₂, _∙_, subst, subst⁻¹}
+use Prim.Native.Nat.{ℕ, zero, suc, _-_, _*_, _/_, _≤_, _<_}
+use native.Mathlib.Omega.{arith}
+use borrow.Author.Tests.{lt-ltb}
+use lib.ListN.{length, getD}
+use Rattle.numbers.specs.Products.{product}
+use Rattle.numbers.specs.Sums.{same}
+use Rattle.multipartition.specs.Answers.{Answer, answered, refused}
+use Rattle.multipartition.specs.Cuts.{Fits, costOf, cheapest}
+use Rattle.multipartition.specs.Jobs.{planAnswer}
+use Rattle.multipartition.specs.Matrix.{matrixOf}
+use Rattle.multipartition.specs.Moduli.{moduliOf}
+use Rattle.multipartition.specs.Neighbours.{neighbourAt}
+use Rattle.multipartition.specs.Owners.{ownerAt, ownerOf}
+use Rattle.multipartition.specs.Plans.{Layout, layoutWith, between, inShape}
+use Rattle.multipartition.specs.Questions.{ownerAnswer, neighbourAnswer}
+use Rattle.multipartition.specs.Rivals.{Rival, held, Balanced, Face}
+use Rattle.multipartition.specs.Tiles.{Inside, isInside, oneStepOn}
+use Rattle.multipartition.proofs.Cheapest.{cheapest-fits, cheapest-even}
+use Rattle.multipartition.proofs.Faces.{faces-differ}
+use Rattle.multipartition.proofs.Fitting.{fits-length}
+use Rattle.multipartition.proofs.GridSums.{total, total-ext, held-total}
+use Rattle.multipartition.proofs.Jobs.{Planned, plan-answered, plan-in-shape}
+use Rattle.multipartition.proofs.Minimal.{cheapest-minimal}
+use Rattle.multipartition.proofs.Neighbours.{neighbour-owns}
+use Rattle.multipartition.proofs.Owners.{owner-below, even-owners}
+use Rattle.multipartition.proofs.Plans.{between-true-iff, in-shape-moduli-positive}
+use Rattle.multipartition.proofs.Rivals.{cheapest-no-dearer}
+use Rattle.multipartition.proofs.Tiles.{test-of-inside, one-step-on-inside}
+use Rattle.layout.specs.declared.Plan.{Plan}
+use Rattle.layout.specs.Plans.{layoutOf}
+use Rattle.rivals.specs.Demand3.{cutsOf, processorIn, ownerIn, Ours}
+
+-- owners that agree inside the grid hold equally many tiles
+held-ext : (cuts : List ℕ) (own own′ : List ℕ → ℕ) (k s q : ℕ) → ((x : List ℕ) → Inside cuts x → own x ≡ own′ x)
+    → held cuts own k s q ≡ held cuts own′ k s q
+held-ext cuts own own′ k s q agree =
+    held-total cuts own k s q
+    ∙ total-ext cuts (λ x w. ap (λ (n : ℕ). same (getD x k 0) s * same n q) (agree x w))
+    ∙ sym (held-total cuts own′ k s q)
+
+module _ (p d : ℕ) (extents weights : List ℕ) (plan : Plan) (e : planAnswer p d extents weights ≡ answered (layoutOf plan)) where
+  made : Planned p d extents weights (layoutOf plan)
+  made = plan-answered p d extents weights (layoutOf plan) e
+
+  some-processor : zero < p
+  some-processor = made .passed .range .p-low
+
+  shaped : inShape (layoutOf plan) ≡ true
+  shaped = plan-in-shape p d extents weights (layoutOf plan) e
+
+  moduli-are : layoutOf plan .moduli ≡ moduliOf p (cutsOf plan)
+  moduli-are = ap (λ (l : Layout). l .moduli) (made .plan-is)
+
+  matrix-is : layoutOf plan .matrix ≡ matrixOf p (cutsOf plan)
+  matrix-is = ap (λ (l : Layout). l .matrix) (made .plan-is)
+
+  owner-answers : (x : List ℕ) → Inside (cutsOf plan) x → ownerAnswer (layoutOf plan) x ≡ answered (ownerAt (layoutOf plan .moduli) (layoutOf plan .matrix) x)
+  unfolding ownerAnswer
+  owner-answers x w = rw (shaped, test-of-inside (cutsOf plan) x w)
+
+  -- the owner that the question names is the definition's
+  owner-at : (x : List ℕ) → Inside (cutsOf plan) x → ownerIn plan x ≡ ownerAt (layoutOf plan .moduli) (layoutOf plan .matrix) x
+  unfolding ownerIn
+  owner-at x w = ap processorIn (owner-answers x w)
+
+  owner-of : (x : List ℕ) → Inside (cutsOf plan) x → ownerIn plan x ≡ ownerOf p (cutsOf plan) x
+  unfolding ownerOf
+  owner-of x w = owner-at x w ∙ ap₂ (λ (ms : List ℕ) (rows : List (List ℕ)). ownerAt ms rows x) moduli-are matrix-is
+
+  shares-are : (k s q : ℕ) → k < length (cutsOf plan) → s < getD (cutsOf plan) k 0 → q < p
+      → held (cutsOf plan) (ownerIn plan) k s q ≡ product (cutsOf plan) / (getD (cutsOf plan) k 0 * p)
+  shares-are k s q l m o =
+      held-ext (cutsOf plan) (ownerIn plan) (ownerOf p (cutsOf plan)) k s q owner-of
+      ∙ even-owners p (cutsOf plan) some-processor (cheapest-even p extents weights (cutsOf plan) (made .cuts-are)) k s q l m o
+
+  cost-is : plan .cost ≡ costOf weights (cutsOf plan)
+  unfolding layoutOf
+  cost-is = ap (λ (l : Layout). l .cost) (made .plan-is)
+
+  d-is : plan .d ≡ length (cutsOf plan)
+  unfolding layoutOf
+  d-is = ap (λ (l : Layout). l .d) (made .plan-is) ∙ sym (fits-length extents (cutsOf plan) (cheapest-fits p extents weights (cutsOf plan) (made .cuts-are)))
+
+  p-is : layoutOf plan .p ≡ p
+  p-is = ap (λ (l : Layout). l .p) (made .plan-is)
+
+  balanced-is : Balanced p (cutsOf plan) (ownerIn plan)
+  unfolding Balanced
+  balanced-is k s l m q r o o′ = shares-are k s q l m o ∙ sym (shares-are k s r l m o′)
+
+  neighbour-at : (k : ℕ) (up : Bool) (x y : List ℕ) → k < length (cutsOf plan) → Inside (cutsOf plan) x → oneStepOn (cutsOf plan) k up x ≡ some y
+      → neighbourAt (cutsOf plan) (layoutOf plan .moduli) (layoutOf plan .matrix) k up (ownerIn plan x) ≡ some (ownerIn plan y)
+  neighbour-at k up x y l w step =
+      ap (neighbourAt (cutsOf plan) (layoutOf plan .moduli) (layoutOf plan .matrix) k up) (owner-at x w)
+      ∙ neighbour-owns (cutsOf plan) (layoutOf plan .moduli) (layoutOf plan .matrix)
+      (in-shape-moduli-positive (layoutOf plan) shaped) k up x y l w step
+      ∙ ap some (sym (owner-at y (one-step-on-inside (cutsOf plan) x y k up w step)))
+
+  neighbour-is : (k : ℕ) (up : Bool) (x y : List ℕ) → 1 ≤ k → k ≤ plan .d → Inside (cutsOf plan) x → oneStepOn (cutsOf plan) (k - 1) up x ≡ some y
+      → neighbourAnswer (layoutOf plan) (ownerIn plan x) k up ≡ answered (some (ownerIn plan y))
+  unfolding neighbourAnswer layoutOf
+  neighbour-is k up x y low high w step =
+      let q-below : ownerIn plan x < layoutOf plan .p =
+      subst⁻¹ (λ (n : ℕ). ownerIn plan x < n) p-is (subst⁻¹ (λ (n : ℕ). n < p) (owner-of x w) (owner-below p (cutsOf plan) x some-processor)) in
+      rw (shaped, between-true-iff 1 (plan .d) k .1 (low, high), lt-ltb (ownerIn plan x) (layoutOf plan .p) q-below)
+      (ap answered (neighbour-at (k - 1) up x y (omega (arith, d-is)) w step))
+
+  ours : Ours p extents weights plan
+  ours = record {
+    in-shape = shaped;
+    fits = cheapest-fits p extents weights (cutsOf plan) (made .cuts-are);
+    owner-answered = λ x w. owner-answers x w ∙ ap answered (sym (owner-at x w));
+    owner-below = λ x w. subst⁻¹ (λ (n : ℕ). n < p) (owner-of x w) (owner-below p (cutsOf plan) x some-processor);
+    balanced = balanced-is;
+    shares = shares-are;
+    cost-summed = cost-is;
+    cheapest-of-all = λ rival balanced.
+        subst⁻¹ (λ (n : ℕ). n ≤ costOf weights (rival .cuts)) cost-is (cheapest-no-dearer p extents some-processor weights (cutsOf plan) (made .cuts-are) rival balanced);
+    faces-differ = λ x y w v face same-owner.
+        faces-differ p (cutsOf plan) some-processor (cheapest-minimal p extents weights (cutsOf plan) (made .cuts-are)) x y w v face
+        (sym (owner-of x w) ∙ same-owner ∙ owner-of y v);
+    one-neighbour = neighbour-is;
+  }

@@ -1,0 +1,53 @@
+-- Demand 3 (document 01, "The rival of demand 3"): what holds of the plan that the planner answers, and of what the owner and neighbour questions
+-- answer about it, against every rival. The calls promise the definitions planAnswer, ownerAnswer and neighbourAnswer, which stand here for them.
+use mathlib.Core.Bool.{Bool, true}
+use mathlib.Core.List.{List}
+use mathlib.Core.Logic.{_↔_, _≢_}
+use mathlib.Core.Option.{Option, some}
+use mathlib.Core.Path.{_≡_}
+use Prim.Native.Nat.{ℕ, _-_, _*_, _/_, _≤_, _<_}
+use lib.ListN.{length, getD}
+use Rattle.numbers.specs.Products.{product}
+use Rattle.multipartition.specs.Answers.{Answer, answered, refused}
+use Rattle.multipartition.specs.Cuts.{Fits, costOf}
+use Rattle.multipartition.specs.Plans.{Layout, inShape}
+use Rattle.multipartition.specs.Questions.{ownerAnswer, neighbourAnswer}
+use Rattle.multipartition.specs.Rivals.{Rival, held, Balanced, Face}
+use Rattle.multipartition.specs.Tiles.{Inside, oneStepOn}
+use Rattle.layout.specs.declared.Plan.{Plan}
+use Rattle.layout.specs.Plans.{layoutOf}
+
+-- the cuts of a plan
+abbrev pub cutsOf : Plan → List ℕ
+cutsOf plan = layoutOf plan .cuts
+
+-- the processor that an answer names; none is 0
+abbrev pub processorIn : Answer ℕ → ℕ
+processorIn (answered q) = q
+processorIn (refused number place) = 0
+
+-- "a tile's owner is the owner question's answer for that plan and position"
+unfoldable pub ownerIn : Plan → List ℕ → ℕ
+ownerIn plan position = processorIn (ownerAnswer (layoutOf plan) position)
+
+-- What holds of a plan that the planner answers.
+pub record Ours (p : ℕ) (extents weights : List ℕ) (plan : Plan) : Type 0 where
+  -- no question about it is refused with 6
+  pub in-shape : inShape (layoutOf plan) ≡ true
+  pub fits : Fits extents (cutsOf plan)
+  -- the owner question names a processor for every tile
+  pub owner-answered : (x : List ℕ) → Inside (cutsOf plan) x → ownerAnswer (layoutOf plan) x ≡ answered (ownerIn plan x)
+  pub owner-below : (x : List ℕ) → Inside (cutsOf plan) x → ownerIn plan x < p
+  -- it "gives every processor equally many tiles in every slab": "every processor owns exactly tiles / (bk · p) tiles of each slab of dimension k"
+  pub balanced : Balanced p (cutsOf plan) (ownerIn plan)
+  pub shares : (k s q : ℕ) → k < length (cutsOf plan) → s < getD (cutsOf plan) k 0 → q < p
+      → held (cutsOf plan) (ownerIn plan) k s q ≡ product (cutsOf plan) / (getD (cutsOf plan) k 0 * p)
+  -- "its cost is the one in the plan, summed from the plan's cuts", and no balanced rival costs less
+  pub cost-summed : plan .cost ≡ costOf weights (cutsOf plan)
+  pub cheapest-of-all : (rival : Rival p extents) → Balanced p (rival .cuts) (rival .owner) → plan .cost ≤ costOf weights (rival .cuts)
+  -- tiles with a common face have different owners
+  pub faces-differ : (x y : List ℕ) → Inside (cutsOf plan) x → Inside (cutsOf plan) y → Face x y → ownerIn plan x ≢ ownerIn plan y
+  -- "Where the tile one step up or down along k from a tile of processor q is inside the grid, its owner is the neighbour question's answer for
+  -- q, k and that direction": dimensions are counted from 1
+  pub one-neighbour : (k : ℕ) (up : Bool) (x y : List ℕ) → 1 ≤ k → k ≤ plan .d → Inside (cutsOf plan) x → oneStepOn (cutsOf plan) (k - 1) up x ≡ some y
+      → neighbourAnswer (layoutOf plan) (ownerIn plan x) k up ≡ answered (some (ownerIn plan y))
