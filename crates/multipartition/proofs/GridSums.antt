@@ -41,8 +41,7 @@ sum-pick (suc n) s f l = go (λ h. sum-pick n s f h) (ℕ-discrete n s)
   where
     none : (k : ℕ) → k ≤ s → sum k (λ i. same i s * f i) ≡ 0
     none k h =
-        sum-cong k (λ i b. ap (λ (x : ℕ). x * f i) (same-no i s (λ e. lt-irrefl i (omega arith))) ∙ zero-mul (f i))
-        ∙ sum-zero k
+        sum-cong k (λ i b. ap (λ (x : ℕ). x * f i) (same-no i s (λ e. lt-irrefl i (omega arith))) ∙ zero-mul (f i)) ∙ sum-zero k
 
     go : (s < n → sum n (λ i. same i s * f i) ≡ f s) → Dec (n ≡ s) → sum n (λ i. same i s * f i) + same n s * f n ≡ f s
     go below (yes e) =
@@ -65,15 +64,13 @@ total (b ∷ cuts) f = sum b (λ i. total cuts (λ x. f (i ∷ x)))
 pub total-ext : (cuts : List ℕ) {f g : List ℕ → ℕ} → ((x : List ℕ) → Inside cuts x → f x ≡ g x) → total cuts f ≡ total cuts g
 unfolding total Inside
 total-ext [] h = h [] tt
-total-ext (b ∷ cuts) h =
-    sum-cong b (λ i l. total-ext cuts (λ x m. h (i ∷ x) (l, m)))
+total-ext (b ∷ cuts) h = sum-cong b (λ i l. total-ext cuts (λ x m. h (i ∷ x) (l, m)))
 
 pub total-mul-left : (cuts : List ℕ) (c : ℕ) (f : List ℕ → ℕ) → total cuts (λ x. c * f x) ≡ c * total cuts f
 unfolding total
 total-mul-left [] c f = refl
 total-mul-left (b ∷ cuts) c f =
-    sum-cong b (λ i l. total-mul-left cuts c (λ x. f (i ∷ x)))
-    ∙ sum-mul-left b c (λ i. total cuts (λ x. f (i ∷ x)))
+    sum-cong b (λ i l. total-mul-left cuts c (λ x. f (i ∷ x))) ∙ sum-mul-left b c (λ i. total cuts (λ x. f (i ∷ x)))
 
 -- a sum goes inside
 pub total-swap : (n : ℕ) (cuts : List ℕ) (f : ℕ → List ℕ → ℕ) → sum n (λ i. total cuts (f i)) ≡ total cuts (λ x. sum n (λ i. f i x))
@@ -108,8 +105,7 @@ count-starting test from zero xs = refl
 count-starting test from (suc n) xs =
     count-append test (map (λ x. from ∷ x) xs) (startingWith (suc from) n xs)
     ∙ ap₂ _+_ (count-map test from xs ∙ ap (λ (i : ℕ). count (λ x. test (i ∷ x)) xs) (omega arith))
-    (count-starting test (suc from) n xs
-    ∙ sum-cong n (λ i l. ap with (omega arith)))
+    (count-starting test (suc from) n xs ∙ sum-cong n (λ i l. ap with (omega arith)))
     ∙ ap (λ (m : ℕ). m + sum n (λ i. with (from + (1 + i)))) (sym (zero-add (with (from + 0))))
     ∙ sym (sum-split 1 n (λ i. with (from + i)))
     ∙ sum-to (1 + n) (suc n) (λ i. with (from + i)) (omega arith)
@@ -157,8 +153,7 @@ pub slabTotal-ext : (k s b1 : ℕ) (cuts : List ℕ) {f g : ℕ → List ℕ →
     → ((i1 : ℕ) (x : List ℕ) → i1 < b1 → Inside cuts x → f i1 x ≡ g i1 x) → slabTotal k s b1 cuts f ≡ slabTotal k s b1 cuts g
 unfolding slabTotal Inside
 slabTotal-ext k s b1 [] l h = h s [] l tt
-slabTotal-ext zero s b1 (b ∷ cuts) l h =
-    sum-cong b1 (λ i1 m. total-ext cuts (λ x w. h i1 (s ∷ x) m (l, w)))
+slabTotal-ext zero s b1 (b ∷ cuts) l h = sum-cong b1 (λ i1 m. total-ext cuts (λ x w. h i1 (s ∷ x) m (l, w)))
 slabTotal-ext (suc k) s b1 (b ∷ cuts) l h =
     sum-cong b (λ i m. slabTotal-ext k s b1 cuts l (λ i1 x a w. h i1 (i ∷ x) a (m, w)))
 
@@ -189,11 +184,8 @@ slabTotal-swap n (suc k) s b1 (b ∷ cuts) f =
 slabTotal-one : (k s b1 : ℕ) (cuts : List ℕ) → slabTotal k s b1 cuts (λ i1 x. 1) ≡ othersDown k b1 cuts
 unfolding slabTotal othersDown
 slabTotal-one k s b1 [] = refl
-slabTotal-one zero s b1 (b ∷ cuts) =
-    sum-cong b1 (λ i1 l. total-one cuts) ∙ sum-const b1 (product cuts)
-slabTotal-one (suc k) s b1 (b ∷ cuts) =
-    sum-cong b (λ i l. slabTotal-one k s b1 cuts)
-    ∙ sum-const b (othersDown k b1 cuts)
+slabTotal-one zero s b1 (b ∷ cuts) = sum-cong b1 (λ i1 l. total-one cuts) ∙ sum-const b1 (product cuts)
+slabTotal-one (suc k) s b1 (b ∷ cuts) = sum-cong b (λ i l. slabTotal-one k s b1 cuts) ∙ sum-const b (othersDown k b1 cuts)
 
 -- a slab's sum is a sum over the whole grid with an indicator
 slabTotal-total : (k s b1 : ℕ) (cuts : List ℕ) (f : ℕ → List ℕ → ℕ) → s < placeDown k b1 cuts

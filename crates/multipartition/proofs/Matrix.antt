@@ -11,19 +11,13 @@ use Rattle.multipartition.specs.Moduli.{moduliOf}
 use Rattle.multipartition.specs.Matrix.{remainder, Row, firstRow, restRows, rowsOf, remaindersOf, matrixOf}
 use Rattle.multipartition.specs.Plans.{entryAt}
 use Rattle.multipartition.proofs.MixedRadix.{Positive}
+use Rattle.multipartition.proofs.Chains.{length-listOf}
 use Rattle.multipartition.proofs.Moduli.{length-moduli, moduli-positive}
 
 pub remainder-below : (z : ℤ) (m : ℕ) → zero < m → remainder z m < m
 unfolding remainder
 remainder-below (pos n) m l = mod-lt n l
 remainder-below (negsuc n) m l = omega arith
-
--- ---- lists of a function's values
-
-pub length-listOf : (from n : ℕ) (f : ℕ → ℕ) → length (listOf from n f) ≡ n
-unfolding listOf
-length-listOf from zero f = refl
-length-listOf from (suc n) f = ap suc (length-listOf (suc from) n f)
 
 listOf-below : (from n : ℕ) (f : ℕ → ℕ) (m : ℕ) → zero < m → ((i : ℕ) → f i < m) → (j : ℕ) → getD (listOf from n f) j 0 < m
 unfolding listOf

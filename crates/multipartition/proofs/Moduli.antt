@@ -37,7 +37,7 @@ product-moduli p (b ∷ cuts) =
     ap (λ (n : ℕ). gcd p (b * product cuts) / gcd p (product cuts) * n) (product-moduli p cuts)
     ∙ div-mul-cancel (gcd p (product cuts)) (gcd-dvd-gcd-mul p b (product cuts))
 
--- even cuts of any dimension at all: p divides the product of the cuts after the first, and of all
+-- for even cuts p divides the product of the cuts after the first, and of all
 pub even-dvd-rest : (p b : ℕ) (cuts : List ℕ) → Even p (b ∷ cuts) → p ∣ product cuts
 even-dvd-rest p b cuts even = even zero (zero-lt-suc (length cuts))
 
@@ -123,7 +123,6 @@ othersDown (suc k) b1 (b ∷ cuts) = b * othersDown k b1 cuts
 abbrev pub EvenDown : ℕ → ℕ → List ℕ → Type 0
 EvenDown p b1 cuts = (k : ℕ) → p ∣ othersDown k b1 cuts
 
--- past the list stands dimension 1
 othersDown-past : (k b1 : ℕ) (cuts : List ℕ) → length cuts ≤ k → othersDown k b1 cuts ≡ product cuts
 unfolding othersDown
 othersDown-past k b1 [] l = refl
@@ -182,12 +181,12 @@ even-down p b1 cuts even k = go (decLe (length cuts) k)
         subst (λ (j : ℕ). p ∣ othersDown j b1 (reverse cuts)) back
         (subst⁻¹ (λ (n : ℕ). p ∣ n) (othersDown-reverse b1 cuts (length cuts - k) (omega arith)) (even (length cuts - k) (omega arith)))
 
--- M3: even cuts stay even without the highest dimension, for what remains of p
+-- even cuts stay even without the highest dimension, for what remains of p
 pub even-remains : (p b1 b : ℕ) (cuts : List ℕ) → zero < p → EvenDown p b1 (b ∷ cuts) → EvenDown (remains p b) b1 cuts
 unfolding othersDown
 even-remains p b1 b cuts hp even k = gauss p b (othersDown k b1 cuts) hp (even (suc k))
 
--- M2: the moduli of the dimensions from d down to 2 multiply to p
+-- the moduli of the dimensions from d down to 2 multiply to p
 pub moduliDown-product : (p b1 : ℕ) (cuts : List ℕ) → zero < p → EvenDown p b1 cuts → product (moduliDown p cuts) ≡ p
 unfolding moduliDown othersDown
 moduliDown-product p b1 [] hp even = sym (eq-one-of-dvd-one (even 0))

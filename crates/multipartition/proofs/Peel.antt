@@ -22,7 +22,7 @@ use Rattle.multipartition.proofs.Rows.{taken, reached, values, hits, Di
 abbrev share : ℕ → ℕ → ℕ → ℕ
 share r b m = b / lcm m (gcd r b)
 
--- N7 as one equation: how many of b consecutive numbers, from y on, have the remainder e by m and solve a ~ c + t * _ modulo r, with t = r / gcd r b
+-- how many of b consecutive numbers, from y on, have the remainder e by m and solve a ~ c + t * _ modulo r, with t = r / gcd r b
 joint-count : (b m r y a c e : ℕ) → m ∣ b → zero < r → e < m
     → sum b (λ i. same ((i + y) % m) e * same (a % r) ((c + factor r b * (i + y)) % r))
     ≡ share r b m * same (a % next r b m) ((c + factor r b * e) % next r b m)

@@ -47,7 +47,7 @@ unfoldable pub Below : List ℕ → List ℕ → List ℕ → Type 0
 Below [] moduli cs = Unit {0}
 Below (b ∷ cuts) moduli cs = (first cs < first moduli) × Below cuts (rest moduli) (rest cs)
 
--- M1
+-- every modulus divides its cut
 pub moduliDown-dividing : (p : ℕ) (cuts : List ℕ) → Dividing cuts (moduliDown p cuts)
 unfolding moduliDown Dividing
 moduliDown-dividing p [] = tt
