@@ -261,7 +261,8 @@ held-slabTotal b1 cuts owner k s q l h =
     held-total (b1 ∷ cuts) owner k s q
     ∙ sum-cong b1 (λ i1 z.
     total-reverse cuts (λ x. same (getD (i1 ∷ x) k 0) s * same (owner (i1 ∷ x)) q)
-    ∙ total-ext (reverse cuts) (λ x w. ap (λ (n : ℕ). same n s * same (owner (i1 ∷ reverse x)) q) (sym (place i1 x (inside-length (reverse cuts) x w ∙ length-reverse cuts)))))
+    ∙ total-ext (reverse cuts) (λ x w.
+    ap (λ (n : ℕ). same n s * same (owner (i1 ∷ reverse x)) q) (sym (place i1 x (inside-length (reverse cuts) x w ∙ length-reverse cuts)))))
     ∙ slabTotal-total (length cuts - k) s b1 (reverse cuts) (λ i1 x. same (owner (i1 ∷ reverse x)) q)
     (subst⁻¹ (λ (n : ℕ). s < n) (placeDown-reverse k b1 cuts l) h)
   where

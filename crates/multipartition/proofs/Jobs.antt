@@ -69,7 +69,7 @@ module _ (p d : ℕ) (extents weights : List ℕ) where
   unfolding planAnswer Extent
   plan-of-passed job =
       rw (
-        between-true-iff 2 5 d .1 (subst (λ (n : ℕ). 2 ≤ n) (job .extents-many) (job .range .d-low), subst (λ (n : ℕ). n ≤ 5) (job .extents-many) (job .range .d-high)),
+        between-true-iff 2 5 d .1 (subst (λ (n : ℕ). (2 ≤ n) × (n ≤ 5)) (job .extents-many) (job .range .d-low, job .range .d-high)),
         between-true-iff 1 4096 p .1 (job .range .p-low, job .range .p-high),
         eq-eqb (length extents) d (job .extents-many),
         eq-eqb (length weights) d (job .weights-many),
