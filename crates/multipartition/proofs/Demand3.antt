@@ -16,13 +16,13 @@ use Rattle.multipartition.specs.Owners.{ownerOf}
 use Rattle.multipartition.specs.Neighbours.{neighbourOf}
 use Rattle.multipartition.specs.Tiles.{Inside, oneStepOn}
 use Rattle.multipartition.specs.Rivals.{Rival, held, Balanced, Face}
-use Rattle.multipartition.proofs.Cheapest.{cheapest-fits}
+use Rattle.multipartition.proofs.Cheapest.{cheapest-fits, cheapest-even}
 use Rattle.multipartition.proofs.Moduli.{moduli-positive, moduli-product}
 use Rattle.multipartition.proofs.Owners.{owner-below, even-owners}
 use Rattle.multipartition.proofs.Neighbours.{neighbour-owns, neighbour-returns, neighbour-injective}
-use Rattle.multipartition.proofs.Minimal.{Minimal, cheapest-minimal, cut-dvd-processors, tiles-dvd-square}
+use Rattle.multipartition.proofs.Minimal.{cut-dvd-processors, tiles-dvd-square}
 use Rattle.multipartition.proofs.Rivals.{balanced-iff-cheapest, cheapest-no-dearer}
-use Rattle.multipartition.proofs.Faces.{faces-differ}
+use Rattle.multipartition.proofs.Faces.{cheapest-faces-differ}
 
 -- what holds of the cuts that the planner answers, and of their owners and neighbours
 pub record Ours (p : ℕ) (extents weights cuts : List ℕ) : Type 0 where
@@ -59,26 +59,26 @@ module _ (p : ℕ) (extents weights : List ℕ) (hp : zero < p) where
   unfolding ownerOf neighbourOf
   ours-of-cheapest cuts e = record {
     fits = cheapest-fits p extents weights cuts e;
-    even = minimal .even;
+    even = even;
     no-dearer = cheapest-no-dearer p extents hp weights cuts e;
     owner-is-processor = λ position. owner-below p cuts position hp;
-    exact-share = even-owners p cuts hp (minimal .even);
-    faces = faces-differ p cuts hp minimal;
+    exact-share = even-owners p cuts hp even;
+    faces = cheapest-faces-differ p extents weights cuts hp e;
     one-neighbour = neighbour-owns cuts (moduliOf p cuts) (matrixOf p cuts) (moduli-positive p cuts hp);
     neighbour-back = λ k up q r h l.
         neighbour-returns cuts (moduliOf p cuts) (matrixOf p cuts) (moduli-positive p cuts hp) k up q r (below k q h l);
     neighbours-differ = λ k up q r h cut l l'.
         neighbour-injective cuts (moduliOf p cuts) (matrixOf p cuts) (moduli-positive p cuts hp) k up q r cut (below k q h l) (below k r h l');
-    cuts-divide = cut-dvd-processors p cuts minimal;
-    tiles-divide = tiles-dvd-square p cuts hp minimal;
+    cuts-divide = cut-dvd-processors p extents weights cuts e;
+    tiles-divide = tiles-dvd-square p extents weights cuts e hp;
   }
     where
-      minimal : Minimal p cuts
-      minimal = cheapest-minimal p extents weights cuts e
+      even : Even p cuts
+      even = cheapest-even p extents weights cuts e
 
       -- where there is a dimension, the moduli multiply to p
       below : (k q : ℕ) → k < length cuts → q < p → q < product (moduliOf p cuts)
-      below k q h l = subst⁻¹ (λ (n : ℕ). q < n) (moduli-product p cuts (omega arith) (minimal .even)) l
+      below k q h l = subst⁻¹ (λ (n : ℕ). q < n) (moduli-product p cuts (omega arith) even) l
 
   -- DEMAND 3
   pub demand-3 : Demand3 p extents weights

@@ -3,6 +3,7 @@
 use mathlib.Core.Path.{_≡_, refl, sym, ap, ap₂, _∙_, subst, subst⁻¹, fun-ext}
 use mathlib.Core.Logic.{_⊎_, inl, inr, _≢_}
 use mathlib.Core.List.{List, [], _∷_}
+use mathlib.Core.Option.{some}
 use Prim.Native.Nat.{ℕ, zero, suc, _*_, _%_, _≤_, _<_, _∣_}
 use native.Mathlib.Nat.{not-suc-le-zero, le-of-suc-le-suc, lt-of-not-le, eq-of-mul-eq-mul-left, le-refl}
 use native.Mathlib.Decide.{decLe, ℕ-discrete}
@@ -13,6 +14,7 @@ use Rattle.numbers.specs.Sums.{sum, same}
 use Rattle.numbers.proofs.Congruence.{Congruent, congruent-add, congruent-mul, congruent-cancel-add}
 use Rattle.numbers.proofs.Sums.{sum-const, sum-mul-left}
 use Rattle.multipartition.specs.Lists.{first, rest, firstList, restLists}
+use Rattle.multipartition.specs.Cuts.{cheapest}
 use Rattle.multipartition.specs.Moduli.{moduliOf}
 use Rattle.multipartition.specs.Matrix.{matrixOf}
 use Rattle.multipartition.specs.MixedRadix.{numberFrom, digitsOf}
@@ -24,7 +26,7 @@ use Rattle.multipartition.proofs.Moduli.{moduli-positive}
 use Rattle.multipartition.proofs.GridSums.{sum-cong, total, held-total}
 use Rattle.multipartition.proofs.Owners.{digits-of-owner, owner-below, even-owners}
 use Rattle.multipartition.proofs.Neighbours.{upOne, times-place, times-up}
-use Rattle.multipartition.proofs.Minimal.{Minimal, positive-at, positive-set, productBut, product-without-set, minimal-unchanged}
+use Rattle.multipartition.proofs.Minimal.{Minimal, cheapest-minimal, positive-at, positive-set, productBut, product-without-set, minimal-unchanged}
 use Rattle.multipartition.proofs.Rivals.{dvd-of-equal-shares}
 
 -- ---- a column of multiples of the moduli
@@ -166,7 +168,7 @@ face-up cuts x y k w w' elsewhere more = (in-cuts, ext-getD 0 y (upOne k x) leng
             (more ∙ sym (getD-set-same x k (suc (getD x k 0)) 0 (omega (arith, in-cuts, inside-length cuts x w))))
         go (no n) = sym (elsewhere j n) ∙ sym (getD-set-other x k j (suc (getD x k 0)) 0 n)
 
--- Two tiles with a common face have different owners.
+-- With minimal cuts two tiles with a common face have different owners.
 pub faces-differ : (p : ℕ) (cuts : List ℕ) → zero < p → Minimal p cuts → (x y : List ℕ) → Inside cuts x → Inside cuts y → Face x y
     → ownerOf p cuts x ≢ ownerOf p cuts y
 faces-differ p cuts hp minimal x y w w' face e = go (face .by-one)
@@ -181,3 +183,8 @@ faces-differ p cuts hp minimal x y w w' face e = go (face .by-one)
     go (inr more) =
         let (l, x-is) = face-up cuts y x k w' w (λ j n. sym (face .elsewhere j n)) more in
         step-changes-owner p cuts hp minimal y k l w' (subst (λ (v : List ℕ). Inside cuts v) x-is w) (sym e ∙ ap (ownerOf p cuts) x-is)
+
+-- So it is with the cheapest cuts.
+pub cheapest-faces-differ : (p : ℕ) (extents weights cuts : List ℕ) → zero < p → cheapest p extents weights ≡ some cuts
+    → (x y : List ℕ) → Inside cuts x → Inside cuts y → Face x y → ownerOf p cuts x ≢ ownerOf p cuts y
+cheapest-faces-differ p extents weights cuts hp e = faces-differ p cuts hp (cheapest-minimal p extents weights cuts e)

@@ -117,8 +117,8 @@ minimal-unchanged p cuts k c minimal l low high still =
 
 -- ---- every cut divides p
 
-pub cut-dvd-processors : (p : ℕ) (cuts : List ℕ) → Minimal p cuts → (k : ℕ) → k < length cuts → getD cuts k 0 ∣ p
-cut-dvd-processors p cuts minimal k l = subst (λ (n : ℕ). n ∣ p) shared (gcd-dvd-right b p)
+minimal-cut-dvd : (p : ℕ) (cuts : List ℕ) → Minimal p cuts → (k : ℕ) → k < length cuts → getD cuts k 0 ∣ p
+minimal-cut-dvd p cuts minimal k l = subst (λ (n : ℕ). n ∣ p) shared (gcd-dvd-right b p)
   where
     b : ℕ
     b = getD cuts k 0
@@ -217,9 +217,9 @@ no-larger-divisor p cuts minimal c d whole l =
             (dvd-trans (p * g) (mul-dvd-mul-left g p (gcd-dvd-left c b)) (d k n))) in
             dvd-of-mul-dvd-mul-left p (omega arith) more
 
-pub tiles-dvd-square : (p : ℕ) (cuts : List ℕ) → zero < p → Minimal p cuts → product cuts ∣ p * p
-tiles-dvd-square p [] hp minimal = one-dvd (p * p)
-tiles-dvd-square p (b1 ∷ later) hp minimal =
+minimal-tiles-dvd : (p : ℕ) (cuts : List ℕ) → zero < p → Minimal p cuts → product cuts ∣ p * p
+minimal-tiles-dvd p [] hp minimal = one-dvd (p * p)
+minimal-tiles-dvd p (b1 ∷ later) hp minimal =
     subst (λ (i : ℕ). product cuts ∣ p * i) exact (dvd-mul-gcdBelow (length cuts) p (product cuts) others each)
   where
     cuts : List ℕ
@@ -234,7 +234,7 @@ tiles-dvd-square p (b1 ∷ later) hp minimal =
     each : (k : ℕ) → k < length cuts → product cuts ∣ p * others k
     each k l =
         subst⁻¹ (λ (i : ℕ). i ∣ p * others k) (product-without k cuts l)
-        (mul-dvd-mul-right (getD cuts k 0) (cut-dvd-processors p cuts minimal k l) (others k))
+        (mul-dvd-mul-right (getD cuts k 0) (minimal-cut-dvd p cuts minimal k l) (others k))
 
     -- p divides them all, so it divides their greatest common divisor
     over : p ∣ G
@@ -261,11 +261,20 @@ tiles-dvd-square p (b1 ∷ later) hp minimal =
             (no-larger-divisor p cuts minimal (G / p) (λ k m. subst⁻¹ (λ (i : ℕ). i ∣ others k) whole (gcdBelow-dvd (length cuts) others k m))
             (dvd-trans (G / p) (subst (λ (i : ℕ). G / p ∣ i) whole (dvd-mul-left (G / p) p)) in-tiles) l)
 
--- ---- in numbers: "tiles .. at most 16,777,216", and cuts of at most 4,096
+-- ---- the cheapest cuts
 
-pub minimal-cut-le : (p : ℕ) (cuts : List ℕ) → zero < p → p ≤ 4096 → Minimal p cuts → (k : ℕ) → k < length cuts → getD cuts k 0 ≤ 4096
-minimal-cut-le p cuts hp small minimal k l = le-trans (le-of-dvd hp (cut-dvd-processors p cuts minimal k l)) small
+module _ (p : ℕ) (extents weights cuts : List ℕ) (e : cheapest p extents weights ≡ some cuts) where
+  -- each divides p
+  pub cut-dvd-processors : (k : ℕ) → k < length cuts → getD cuts k 0 ∣ p
+  cut-dvd-processors = minimal-cut-dvd p cuts (cheapest-minimal p extents weights cuts e)
 
-pub minimal-tiles-le : (p : ℕ) (cuts : List ℕ) → zero < p → p ≤ 4096 → Minimal p cuts → product cuts ≤ 16777216
-minimal-tiles-le p cuts hp small minimal =
-    le-trans (le-of-dvd (mul-pos hp hp) (tiles-dvd-square p cuts hp minimal)) (omega (arith, mul-le-mul-right p small))
+  -- the number of tiles divides p * p
+  pub tiles-dvd-square : zero < p → product cuts ∣ p * p
+  tiles-dvd-square hp = minimal-tiles-dvd p cuts hp (cheapest-minimal p extents weights cuts e)
+
+  -- for p "1 to 4,096" the cuts are at most 4,096, and the tiles "at most 16,777,216"
+  pub cut-le : zero < p → p ≤ 4096 → (k : ℕ) → k < length cuts → getD cuts k 0 ≤ 4096
+  cut-le hp small k l = le-trans (le-of-dvd hp (cut-dvd-processors k l)) small
+
+  pub tiles-le : zero < p → p ≤ 4096 → product cuts ≤ 16777216
+  tiles-le hp small = le-trans (le-of-dvd (mul-pos hp hp) (tiles-dvd-square hp)) (omega (arith, mul-le-mul-right p small))

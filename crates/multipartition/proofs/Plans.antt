@@ -1,8 +1,8 @@
--- The planner's plans are in shape (document 01, "Where each call turns back"): their cuts are small because they are minimal, and their moduli
--- multiply to p because they are even.
+-- Plans in shape (document 01, "Where each call turns back"). Each has one neighbour in each direction, since its moduli multiply to p and so
+-- are not 0. The planner's plans are in shape: their cuts are small because they are minimal, and their moduli multiply to p because they are even.
 use mathlib.Core.Path.{_≡_, subst⁻¹}
-use mathlib.Core.Logic.{_↔_}
-use mathlib.Core.Bool.{Bool, true, _&&_}
+use mathlib.Core.Logic.{_↔_, _≢_}
+use mathlib.Core.Bool.{Bool, true, not, _&&_}
 use mathlib.Core.List.{List}
 use mathlib.Core.Option.{some}
 use Prim.Native.Nat.{ℕ, zero, _≤_, _<_}
@@ -15,15 +15,19 @@ use Rattle.multipartition.specs.Lists.{allBelow}
 use Rattle.multipartition.specs.Cuts.{Fits, cheapest}
 use Rattle.multipartition.specs.Moduli.{moduliOf}
 use Rattle.multipartition.specs.Matrix.{matrixOf}
+use Rattle.multipartition.specs.Owners.{ownerAt}
+use Rattle.multipartition.specs.Neighbours.{neighbourAt}
+use Rattle.multipartition.specs.Tiles.{Inside, oneStepOn}
 use Rattle.multipartition.specs.Plans.{Layout, layoutWith, tilesOf, between, dimensionOk, entryAt, rowOk, inShape}
 use Rattle.multipartition.proofs.Tests.{and-true-iff, allBelow-true-iff}
 use Rattle.multipartition.proofs.MixedRadix.{Positive}
 use Rattle.multipartition.proofs.Tiles.{positive-of-product}
-use Rattle.multipartition.proofs.Cheapest.{cheapest-fits}
+use Rattle.multipartition.proofs.Cheapest.{cheapest-fits, cheapest-even}
 use Rattle.multipartition.proofs.Moduli.{length-moduli, moduli-positive, moduli-product}
 use Rattle.multipartition.proofs.Matrix.{matrix-entry-below}
+use Rattle.multipartition.proofs.Neighbours.{neighbour-owns, neighbour-returns, neighbour-injective}
 use Rattle.multipartition.proofs.Fitting.{fits-length, fits-positive, fits-le-extent}
-use Rattle.multipartition.proofs.Minimal.{Minimal, cheapest-minimal, positive-at, minimal-cut-le, minimal-tiles-le}
+use Rattle.multipartition.proofs.Minimal.{positive-at, cut-le, tiles-le}
 
 pub between-true-iff : (low high n : ℕ) → (between low high n ≡ true) ↔ ((low ≤ n) × (n ≤ high))
 between-true-iff low high n = (
@@ -31,35 +35,63 @@ between-true-iff low high n = (
   λ h. and-true-iff (leb low n) (leb n high) .1 (le-leb low n (h .0), le-leb n high (h .1)),
 )
 
--- a plan in shape has no modulus 0, since its moduli multiply to p
-pub in-shape-moduli-positive : (plan : Layout) → inShape plan ≡ true → Positive (plan .moduli)
-unfolding inShape
-in-shape-moduli-positive plan e =
-    let moduli = and-true-iff (D && P && C && T && R) M .0 e in
-    let rows = and-true-iff (D && P && C && T) R .0 (moduli .0) in
-    let tiles = and-true-iff (D && P && C) T .0 (rows .0) in
-    let cuts = and-true-iff (D && P) C .0 (tiles .0) in
-    let range = between-true-iff 1 4096 (plan .p) .0 (and-true-iff D P .0 (cuts .0) .1) in
-    let whole : product (plan .moduli) ≡ plan .p = eqb-true (product (plan .moduli)) (plan .p) (moduli .1) in
-    positive-of-product (plan .moduli) (subst⁻¹ (λ (n : ℕ). zero < n) whole (range .0))
-  where
-    D : Bool
-    D = between 2 5 (plan .d)
+-- ---- any plan in shape
 
-    P : Bool
-    P = between 1 4096 (plan .p)
+module _ (plan : Layout) (shape : inShape plan ≡ true) where
+  -- "the moduli multiply to p", and p is not 0
+  moduli-checked : (1 ≤ plan .p) × (product (plan .moduli) ≡ plan .p)
+  unfolding inShape
+  moduli-checked =
+      let moduli = and-true-iff (D && P && C && T && R) M .0 shape in
+      let rows = and-true-iff (D && P && C && T) R .0 (moduli .0) in
+      let tiles = and-true-iff (D && P && C) T .0 (rows .0) in
+      let cuts = and-true-iff (D && P) C .0 (tiles .0) in
+      (between-true-iff 1 4096 (plan .p) .0 (and-true-iff D P .0 (cuts .0) .1) .0, eqb-true (product (plan .moduli)) (plan .p) (moduli .1))
+    where
+      D : Bool
+      D = between 2 5 (plan .d)
 
-    C : Bool
-    C = allBelow (plan .d) (dimensionOk (plan .extents) (plan .cuts))
+      P : Bool
+      P = between 1 4096 (plan .p)
 
-    T : Bool
-    T = leb (tilesOf plan) 16777216
+      C : Bool
+      C = allBelow (plan .d) (dimensionOk (plan .extents) (plan .cuts))
 
-    R : Bool
-    R = allBelow (plan .d) (rowOk (plan .d) (plan .moduli) (plan .matrix))
+      T : Bool
+      T = leb (tilesOf plan) 16777216
 
-    M : Bool
-    M = eqb (product (plan .moduli)) (plan .p)
+      R : Bool
+      R = allBelow (plan .d) (rowOk (plan .d) (plan .moduli) (plan .matrix))
+
+      M : Bool
+      M = eqb (product (plan .moduli)) (plan .p)
+
+  -- so no modulus is 0
+  pub in-shape-moduli-positive : Positive (plan .moduli)
+  in-shape-moduli-positive = positive-of-product (plan .moduli) (subst⁻¹ (λ (n : ℕ). zero < n) (moduli-checked .1) (moduli-checked .0))
+
+  processor-below : (q : ℕ) → q < plan .p → q < product (plan .moduli)
+  processor-below q l = subst⁻¹ (λ (n : ℕ). q < n) (moduli-checked .1) l
+
+  module _ (k : ℕ) (up : Bool) where
+    -- "Where the tile one step up or down along k from a tile of processor q is inside the grid, its owner is the neighbour question's answer"
+    pub in-shape-neighbour-owns : (x y : List ℕ) → k < length (plan .cuts) → Inside (plan .cuts) x → oneStepOn (plan .cuts) k up x ≡ some y
+        → neighbourAt (plan .cuts) (plan .moduli) (plan .matrix) k up (ownerAt (plan .moduli) (plan .matrix) x) ≡ some (ownerAt (plan .moduli) (plan .matrix) y)
+    in-shape-neighbour-owns = neighbour-owns (plan .cuts) (plan .moduli) (plan .matrix) in-shape-moduli-positive k up
+
+    -- up then down comes back
+    pub in-shape-neighbour-returns : (q r : ℕ) → q < plan .p → neighbourAt (plan .cuts) (plan .moduli) (plan .matrix) k up q ≡ some r
+        → neighbourAt (plan .cuts) (plan .moduli) (plan .matrix) k (not up) r ≡ some q
+    in-shape-neighbour-returns q r l =
+        neighbour-returns (plan .cuts) (plan .moduli) (plan .matrix) in-shape-moduli-positive k up q r (processor-below q l)
+
+    -- along a cut dimension different processors have different neighbours
+    pub in-shape-neighbour-injective : (q r : ℕ) → getD (plan .cuts) k 0 ≢ 1 → q < plan .p → r < plan .p → q ≢ r
+        → neighbourAt (plan .cuts) (plan .moduli) (plan .matrix) k up q ≢ neighbourAt (plan .cuts) (plan .moduli) (plan .matrix) k up r
+    in-shape-neighbour-injective q r cut lq lr =
+        neighbour-injective (plan .cuts) (plan .moduli) (plan .matrix) in-shape-moduli-positive k up q r cut (processor-below q lq) (processor-below r lr)
+
+-- ---- the planner's plans
 
 -- "d: 2 to 5. p: 1 to 4,096. Extent: 1 to 1,000,000."
 pub record InRange (p : ℕ) (extents : List ℕ) : Type 0 where
@@ -79,14 +111,11 @@ layout-in-shape p extents weights cuts range e =
       between-true-iff 2 5 (length extents) .1 (range .d-low, range .d-high),
       between-true-iff 1 4096 p .1 (range .p-low, range .p-high),
       allBelow-true-iff (length extents) (dimensionOk extents cuts) .1 dimension,
-      le-leb (product cuts) 16777216 (minimal-tiles-le p cuts (range .p-low) (range .p-high) minimal),
+      le-leb (product cuts) 16777216 (tiles-le p extents weights cuts e (range .p-low) (range .p-high)),
       allBelow-true-iff (length extents) (rowOk (length extents) (moduliOf p cuts) (matrixOf p cuts)) .1 row,
     )
-    (eq-eqb (product (moduliOf p cuts)) p (moduli-product p cuts (omega (arith, same-length, range .d-low)) (minimal .even)))
+    (eq-eqb (product (moduliOf p cuts)) p (moduli-product p cuts (omega (arith, same-length, range .d-low)) (cheapest-even p extents weights cuts e)))
   where
-    minimal : Minimal p cuts
-    minimal = cheapest-minimal p extents weights cuts e
-
     fits : Fits extents cuts
     fits = cheapest-fits p extents weights cuts e
 
@@ -103,7 +132,7 @@ layout-in-shape p extents weights cuts range e =
           between-true-iff 1 (getD extents k 0) (getD cuts k 0) .1
               (positive-at cuts (fits-positive extents cuts fits) k (inside k l), fits-le-extent extents cuts fits k (inside k l)),
         )
-        (le-leb (getD cuts k 0) 4096 (minimal-cut-le p cuts (range .p-low) (range .p-high) minimal k (inside k l)))
+        (le-leb (getD cuts k 0) 4096 (cut-le p extents weights cuts e (range .p-low) (range .p-high) k (inside k l)))
 
     row : (i : ℕ) → i < length extents → rowOk (length extents) (moduliOf p cuts) (matrixOf p cuts) i ≡ true
     row i l =
