@@ -1,0 +1,4 @@
+pub mod Bounds
+pub mod Owners
+pub mod Neighbours
+pub mod Answers

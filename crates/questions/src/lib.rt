@@ -1,0 +1,196 @@
+// Who owns a tile position, and who is the neighbour of a processor.
+use layout::Plan;
+ghost use mathlib.Core.Path.{_≡_};
+ghost use Prim.Native.Nat.{_%_, _*_, _<_, _≤_};
+ghost use lib.Dec.{ltb};
+ghost use lib.ListN.{length, getD, take, drop};
+ghost use Rattle.multipartition.specs.Lists.{allBelow};
+ghost use Rattle.multipartition.specs.Owners.{times, ownerAt};
+ghost use Rattle.multipartition.specs.Neighbours.{turn, nextOwner};
+ghost use Rattle.multipartition.specs.Questions.{ownerAnswer, neighbourAnswer};
+ghost use Rattle.layout.specs.Plans.{rowsFrom, layoutOf};
+ghost use Rattle.layout.specs.Shaped.{Shaped};
+ghost use Rattle.questions.specs.Bounds.{Reduced, Small};
+ghost use Rattle.questions.specs.Told.{toldOwner, toldNeighbour};
+
+pub enum Owner {
+    Processor(u32),
+    Refused { number: u32, place: u32 },
+}
+
+pub enum Neighbour {
+    Processor(u32),
+    Nobody,
+    Refused { number: u32, place: u32 },
+}
+
+// Whether each of d coordinates is below its cut.
+fn below_cuts<'a>(d: usize, cuts: &'a [u32; 5], position: &'a [u32]) -> bool
+    requires { ⌜ (d ≤ 5) × (length (now position) ≡ d) ⌝ }
+    ensures { λ r. ⌜ r ≡ allBelow d (λ k. ltb (getD (now (position .entry)) k 0) (getD (now (cuts .entry)) k 0)) ⌝ }
+{
+    let mut ok = true;
+    for k in 0..d {
+        ok = ok & (position[k] < cuts[k]);
+    }
+    ok
+}
+
+// Row i times the position.
+fn row_times<'a>(d: usize, i: usize, matrix: &'a [u32; 25], position: &'a [u32]) -> u32
+    requires { ⌜ (i < 5) × (Small d (drop (i * 5) (now matrix))) × (Small d (now position)) × (length (now position) ≡ d) ⌝ }
+    ensures { λ r. ⌜ r ≡ times (take d (drop (i * 5) (now (matrix .entry)))) (now (position .entry)) ⌝ }
+{
+    let row = i * 5;
+    let mut sum: u32 = 0;
+    for j in 0..d {
+        let at = row + j;
+        sum = sum + matrix[at] * position[j];
+    }
+    sum
+}
+
+// The owner's number, its coordinates taken one after the other.
+fn owner_number<'a>(
+    d: usize,
+    moduli: &'a [u32; 5],
+    matrix: &'a [u32; 25],
+    position: &'a [u32],
+) -> u32
+    requires { ⌜ (Reduced d (now moduli) (now matrix)) × (Small d (now position)) × (length (now position) ≡ d) ⌝ }
+    ensures { λ r. ⌜ r ≡ ownerAt (take d (now (moduli .entry))) (rowsFrom d 0 d (now (matrix .entry))) (now (position .entry)) ⌝ }
+{
+    let mut number: u32 = 0;
+    for i in 0..d {
+        let m = moduli[i];
+        number = number * m + row_times(d, i, matrix, position) % m;
+    }
+    number
+}
+
+// The owner question on a plan in shape.
+fn owner_in_shape(plan: Plan, position: &[u32]) -> Owner
+    requires { ⌜ Shaped plan ⌝ }
+    ensures { λ r. ⌜ toldOwner r ≡ ownerAnswer (layoutOf plan) (now (position .entry)) ⌝ }
+{
+    let d = plan.d;
+    if position.len() != d {
+        return Owner::Refused {
+            number: 8,
+            place: 0,
+        };
+    }
+    if !below_cuts(d, &plan.cuts, position) {
+        return Owner::Refused {
+            number: 8,
+            place: 0,
+        };
+    }
+    Owner::Processor(owner_number(d, &plan.moduli, &plan.matrix, position))
+}
+
+// Who owns a position.
+pub fn owner_of(plan: Plan, position: &[u32]) -> Owner
+    ensures { λ r. ⌜ toldOwner r ≡ ownerAnswer (layoutOf plan) (now (position .entry)) ⌝ }
+{
+    if layout::in_shape(plan) {
+        return owner_in_shape(plan, position);
+    }
+    Owner::Refused {
+        number: 6,
+        place: 0,
+    }
+}
+
+// A number below twice m, modulo m.
+fn reduced(m: u32, number: u32) -> u32
+    requires { ⌜ (number < m * 2) ⌝ }
+    ensures { λ r. ⌜ r ≡ number % m ⌝ }
+{
+    if number < m {
+        return number;
+    }
+    number - m
+}
+
+// A coordinate plus an entry (up) or minus it (down), modulo m.
+fn turned(up: bool, m: u32, coordinate: u32, entry: u32) -> u32
+    requires { ⌜ (m ≤ 4096) × (coordinate < m) × (entry < m) ⌝ }
+    ensures { λ r. ⌜ r ≡ turn up m coordinate entry ⌝ }
+{
+    if up {
+        return reduced(m, coordinate + entry);
+    }
+    reduced(m, coordinate + (m - entry))
+}
+
+// The neighbour's number: the processor's coordinates from the last to the first, each turned and put at its place.
+fn neighbour_number<'a>(
+    d: usize,
+    moduli: &'a [u32; 5],
+    matrix: &'a [u32; 25],
+    k: usize,
+    up: bool,
+    processor: u32,
+) -> u32
+    requires { ⌜ (Reduced d (now moduli) (now matrix)) × (k < d) ⌝ }
+    ensures { λ r. ⌜ r ≡ nextOwner (take d (now (moduli .entry))) (rowsFrom d 0 d (now (matrix .entry))) k up processor ⌝ }
+{
+    let mut number: u32 = 0;
+    let mut radix: u32 = 1;
+    let mut rest = processor;
+    let mut i = d;
+    while 0 < i {
+        i = i - 1;
+        let m = moduli[i];
+        let at = i * 5 + k;
+        number = number + turned(up, m, rest % m, matrix[at]) * radix;
+        radix = radix * m;
+        rest = rest / m;
+    }
+    number
+}
+
+// The neighbour question on a plan in shape.
+fn neighbour_in_shape(plan: Plan, processor: u32, dimension: usize, up: bool) -> Neighbour
+    requires { ⌜ Shaped plan ⌝ }
+    ensures { λ r. ⌜ toldNeighbour r ≡ neighbourAnswer (layoutOf plan) processor dimension up ⌝ }
+{
+    let d = plan.d;
+    if dimension < 1 {
+        return Neighbour::Refused {
+            number: 7,
+            place: 0,
+        };
+    }
+    if d < dimension {
+        return Neighbour::Refused {
+            number: 7,
+            place: 0,
+        };
+    }
+    if plan.p <= processor {
+        return Neighbour::Refused {
+            number: 8,
+            place: 0,
+        };
+    }
+    let k = dimension - 1;
+    if plan.cuts[k] == 1 {
+        return Neighbour::Nobody;
+    }
+    Neighbour::Processor(neighbour_number(d, &plan.moduli, &plan.matrix, k, up, processor))
+}
+
+// Who is the neighbour of a processor along a dimension, counted from 1, up or down.
+pub fn neighbour_of(plan: Plan, processor: u32, dimension: usize, up: bool) -> Neighbour
+    ensures { λ r. ⌜ toldNeighbour r ≡ neighbourAnswer (layoutOf plan) processor dimension up ⌝ }
+{
+    if layout::in_shape(plan) {
+        return neighbour_in_shape(plan, processor, dimension, up);
+    }
+    Neighbour::Refused {
+        number: 6,
+        place: 0,
+    }
+}
