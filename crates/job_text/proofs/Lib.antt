@@ -1,0 +1,5 @@
+pub mod Reached
+pub mod Runs
+pub mod Finds
+pub mod Front
+pub mod Readings

@@ -1,0 +1,4 @@
+pub mod Readable
+pub mod Told
+pub mod Machine
+pub mod Readings
