@@ -11,6 +11,7 @@ use Rattle.numbers.specs.Gcd.{gcd}
 use Rattle.numbers.specs.Products.{product}
 use Rattle.numbers.proofs.Gcd.{gcd-dvd-left, gcd-one, gcd-pos, gcd-split, gcd-rest-pos, gcd-mul}
 use Rattle.multipartition.specs.Moduli.{moduliOf}
+use Rattle.multipartition.proofs.Moduli.{length-moduli}
 use Rattle.layout.specs.Plans.{five}
 use Rattle.matrix.specs.Rows.{at}
 use Rattle.matrix.proofs.Padding.{at-zeros, is-five}
@@ -35,11 +36,6 @@ left-step p cuts k l =
     div-div-eq-div-mul p (gcd p n) (gcd (p / gcd p n) b)
     ∙ ap (λ (x : ℕ). p / x) (sym (gcd-mul p n b))
     ∙ ap (λ (x : ℕ). p / gcd p x) (mul-comm n b ∙ ap product (sym (drop-cons cuts k 0 l)))
-
-pub length-moduli : (p : ℕ) (cuts : List ℕ) → length (moduliOf p cuts) ≡ length cuts
-unfolding moduliOf
-length-moduli p [] = refl
-length-moduli p (b ∷ cuts) = ap suc (length-moduli p cuts)
 
 -- each modulus divides p
 pub modulus-dvd : (p : ℕ) (cuts : List ℕ) → zero < p → (k : ℕ) → k < length cuts → at (moduliOf p cuts) k ∣ p

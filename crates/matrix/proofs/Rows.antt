@@ -12,8 +12,8 @@ use Rattle.multipartition.specs.Lists.{listOf}
 use Rattle.multipartition.specs.Matrix.{Row, firstRow, restRows, startRow, factor, next, finish, finishedRows, rowsOf, remainder, remaindersOf, matrixOf}
 use Rattle.multipartition.specs.Moduli.{moduliOf}
 use Rattle.multipartition.specs.Plans.{entryAt}
+use Rattle.multipartition.proofs.Moduli.{length-moduli}
 use Rattle.matrix.specs.Rows.{backward, startAt, rowAt, at}
-use Rattle.matrix.proofs.Moduli.{length-moduli}
 
 -- ---- backward lists
 
