@@ -14,9 +14,9 @@ use lib.ListN.{length, getD}
 use Rattle.multipartition.specs.Answers.{Answer, answered, refused}
 use Rattle.multipartition.specs.Cuts.{Fits, Even, cheapest}
 use Rattle.multipartition.specs.Plans.{Layout, layoutWith, between, inShape}
-use Rattle.multipartition.specs.Jobs.{firstOutside, planWith, planAnswer}
+use Rattle.multipartition.specs.Jobs.{InRange, Passed, firstOutside, planWith, planAnswer}
 use Rattle.multipartition.proofs.Cheapest.{cheapest-fits, cheapest-even, cheapest-none}
-use Rattle.multipartition.proofs.Plans.{InRange, between-true-iff, layout-in-shape}
+use Rattle.multipartition.proofs.Plans.{between-true-iff, layout-in-shape}
 
 -- ---- the checks
 
@@ -42,14 +42,8 @@ firstOutside-of-extents i [] h = refl
 firstOutside-of-extents i (n ∷ extents) h =
     rw (between-true-iff 1 1000000 n .1 (h 0 (zero-lt-suc (length extents)))) (firstOutside-of-extents (suc i) extents (λ k l. h (suc k) (omega arith)))
 
--- a job that passes the lines 1 to 4 of the table
-pub record Passed (p d : ℕ) (extents weights : List ℕ) : Type 0 where
-  pub range : InRange p extents
-  pub extents-many : length extents ≡ d
-  pub weights-many : length weights ≡ d
-
 -- what the answer `plan` to a job says
-pub record Planned (p d : ℕ) (extents weights : List ℕ) (plan : Layout) : Type 0 where
+pub record PlanFor (p d : ℕ) (extents weights : List ℕ) (plan : Layout) : Type 0 where
   pub passed : Passed p d extents weights
   pub cuts-are : cheapest p extents weights ≡ some (plan .cuts)
   pub plan-is : plan ≡ layoutWith p extents weights (plan .cuts)
@@ -96,7 +90,7 @@ module _ (p d : ℕ) (extents weights : List ℕ) where
           go (some u) f = absurd (h u (cheapest-fits p extents weights u f) (cheapest-even p extents weights u f))
 
   module _ (plan : Layout) where
-    pub plan-answered : planAnswer p d extents weights ≡ answered plan → Planned p d extents weights plan
+    pub plan-answered : planAnswer p d extents weights ≡ answered plan → PlanFor p d extents weights plan
     unfolding planAnswer planWith Extent
     plan-answered e =
         let first = passed-check (not (between 2 5 d)) 1 0 after-1 plan e in

@@ -22,4 +22,4 @@ pub mod Rivals
 pub mod Faces
 pub mod Plans
 pub mod Jobs
-pub mod Demand3
+pub mod EveryRival

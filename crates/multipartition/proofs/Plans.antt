@@ -18,6 +18,7 @@ use Rattle.multipartition.specs.Matrix.{matrixOf}
 use Rattle.multipartition.specs.Owners.{ownerAt}
 use Rattle.multipartition.specs.Neighbours.{neighbourAt}
 use Rattle.multipartition.specs.Tiles.{Inside, oneStepOn}
+use Rattle.multipartition.specs.Jobs.{InRange}
 use Rattle.multipartition.specs.Plans.{Layout, layoutWith, tilesOf, between, dimensionOk, entryAt, rowOk, inShape}
 use Rattle.multipartition.proofs.Tests.{and-true-iff, allBelow-true-iff}
 use Rattle.multipartition.proofs.MixedRadix.{Positive}
@@ -92,15 +93,6 @@ module _ (plan : Layout) (shape : inShape plan ≡ true) where
         neighbour-injective (plan .cuts) (plan .moduli) (plan .matrix) in-shape-moduli-positive k up q r cut (processor-below q lq) (processor-below r lr)
 
 -- ---- the planner's plans
-
--- "d: 2 to 5. p: 1 to 4,096. Extent: 1 to 1,000,000."
-pub record InRange (p : ℕ) (extents : List ℕ) : Type 0 where
-  pub p-low : 1 ≤ p
-  pub p-high : p ≤ 4096
-  pub d-low : 2 ≤ length extents
-  pub d-high : length extents ≤ 5
-  pub extent-low : (k : ℕ) → k < length extents → 1 ≤ getD extents k 0
-  pub extent-high : (k : ℕ) → k < length extents → getD extents k 0 ≤ 1000000
 
 -- The planner's plan is in shape.
 pub layout-in-shape : (p : ℕ) (extents weights cuts : List ℕ) → InRange p extents → cheapest p extents weights ≡ some cuts

@@ -2,12 +2,28 @@
 use mathlib.Core.Bool.{Bool, not, cond, _||_}
 use mathlib.Core.List.{List, [], _∷_}
 use mathlib.Core.Option.{Option, none, some}
-use Prim.Native.Nat.{ℕ, zero, suc}
+use mathlib.Core.Path.{_≡_}
+use Prim.Native.Nat.{ℕ, suc, _≤_, _<_}
 use lib.Dec.{eqb}
-use lib.ListN.{length}
+use lib.ListN.{length, getD}
 use Rattle.multipartition.specs.Answers.{Answer, answered, refused, Check, checked}
 use Rattle.multipartition.specs.Cuts.{cheapest}
 use Rattle.multipartition.specs.Plans.{Layout, layoutWith, between}
+
+-- "d: 2 to 5. p: 1 to 4,096. Extent: 1 to 1,000,000."
+pub record InRange (p : ℕ) (extents : List ℕ) : Type 0 where
+  pub p-low : 1 ≤ p
+  pub p-high : p ≤ 4096
+  pub d-low : 2 ≤ length extents
+  pub d-high : length extents ≤ 5
+  pub extent-low : (k : ℕ) → k < length extents → 1 ≤ getD extents k 0
+  pub extent-high : (k : ℕ) → k < length extents → getD extents k 0 ≤ 1000000
+
+-- a job that passes the lines 1 to 4 of the table
+pub record Passed (p d : ℕ) (extents weights : List ℕ) : Type 0 where
+  pub range : InRange p extents
+  pub extents-many : length extents ≡ d
+  pub weights-many : length weights ≡ d
 
 -- "an extent out of range; place: first such dimension", counted on from k; 0 if there is none
 unfoldable pub firstOutside : ℕ → List ℕ → ℕ

@@ -25,7 +25,7 @@ use Rattle.multipartition.proofs.Cheapest.{cheapest-fits, cheapest-even}
 use Rattle.multipartition.proofs.Faces.{faces-differ}
 use Rattle.multipartition.proofs.Fitting.{fits-length}
 use Rattle.multipartition.proofs.GridSums.{total, total-ext, held-total}
-use Rattle.multipartition.proofs.Jobs.{Planned, plan-answered, plan-in-shape}
+use Rattle.multipartition.proofs.Jobs.{PlanFor, plan-answered, plan-in-shape}
 use Rattle.multipartition.proofs.Minimal.{cheapest-minimal}
 use Rattle.multipartition.proofs.Neighbours.{neighbour-owns}
 use Rattle.multipartition.proofs.Owners.{owner-below, even-owners}
@@ -45,7 +45,7 @@ held-ext cuts own own′ k s q agree =
     ∙ sym (held-total cuts own′ k s q)
 
 module _ (p d : ℕ) (extents weights : List ℕ) (plan : Plan) (e : planAnswer p d extents weights ≡ answered (layoutOf plan)) where
-  made : Planned p d extents weights (layoutOf plan)
+  made : PlanFor p d extents weights (layoutOf plan)
   made = plan-answered p d extents weights (layoutOf plan) e
 
   some-processor : zero < p

@@ -1,4 +1,4 @@
--- Demand 3 over document 01's definitions: what the planner answers, against every rival. For every number of dimensions at once, every p but 0,
+-- What the planner answers, against every rival, over document 01's definitions. For every number of dimensions at once, every p but 0,
 -- all extents and all weights. Dimension k is counted from 0.
 use mathlib.Core.Path.{_≡_, subst⁻¹}
 use mathlib.Core.Logic.{_↔_, _≢_}
@@ -25,7 +25,7 @@ use Rattle.multipartition.proofs.Rivals.{balanced-iff-cheapest, cheapes
 use Rattle.multipartition.proofs.Faces.{cheapest-faces-differ}
 
 -- what holds of the cuts that the planner answers, and of their owners and neighbours
-pub record Ours (p : ℕ) (extents weights cuts : List ℕ) : Type 0 where
+pub record Unbeaten (p : ℕ) (extents weights cuts : List ℕ) : Type 0 where
   pub fits : Fits extents cuts
   pub even : Even p cuts
   -- they cost no more than any rival that gives every processor equally many tiles in every slab
@@ -47,17 +47,17 @@ pub record Ours (p : ℕ) (extents weights cuts : List ℕ) : Type 0 where
   pub cuts-divide : (k : ℕ) → k < length cuts → getD cuts k 0 ∣ p
   pub tiles-divide : product cuts ∣ p * p
 
--- demand 3 for a job
-pub record Demand3 (p : ℕ) (extents weights : List ℕ) : Type 0 where
+-- the planner against every rival, for a job
+pub record EveryRival (p : ℕ) (extents weights : List ℕ) : Type 0 where
   -- the planner answers just where some rival gives every processor equally many tiles in every slab
   pub accepts : ((rival : Rival p extents) × Balanced p (rival .cuts) (rival .owner)) ↔ ((cuts : List ℕ) × (cheapest p extents weights ≡ some cuts))
   -- and what it answers is as good as any such rival
-  pub ours : (cuts : List ℕ) → cheapest p extents weights ≡ some cuts → Ours p extents weights cuts
+  pub unbeaten : (cuts : List ℕ) → cheapest p extents weights ≡ some cuts → Unbeaten p extents weights cuts
 
 module _ (p : ℕ) (extents weights : List ℕ) (hp : zero < p) where
-  pub ours-of-cheapest : (cuts : List ℕ) → cheapest p extents weights ≡ some cuts → Ours p extents weights cuts
+  pub unbeaten-of-cheapest : (cuts : List ℕ) → cheapest p extents weights ≡ some cuts → Unbeaten p extents weights cuts
   unfolding ownerOf neighbourOf
-  ours-of-cheapest cuts e = record {
+  unbeaten-of-cheapest cuts e = record {
     fits = cheapest-fits p extents weights cuts e;
     even = even;
     no-dearer = cheapest-no-dearer p extents hp weights cuts e;
@@ -80,6 +80,5 @@ module _ (p : ℕ) (extents weights : List ℕ) (hp : zero < p) where
       below : (k q : ℕ) → k < length cuts → q < p → q < product (moduliOf p cuts)
       below k q h l = subst⁻¹ (λ (n : ℕ). q < n) (moduli-product p cuts (omega arith) even) l
 
-  -- DEMAND 3
-  pub demand-3 : Demand3 p extents weights
-  demand-3 = record { accepts = balanced-iff-cheapest p extents hp weights; ours = ours-of-cheapest }
+  pub every-rival : EveryRival p extents weights
+  every-rival = record { accepts = balanced-iff-cheapest p extents hp weights; unbeaten = unbeaten-of-cheapest }
