@@ -1,0 +1,288 @@
+//! Chains without a division for each tile.
+//!
+//! All ways walk the tiles downward: a tile's next is what its owner's head was, and the tile
+//! becomes the head. [`by_neighbours`] finds the owner of the tile one down from a list of downward
+//! neighbours, one look for each tile. The others use that in the planner's plans the owners along
+//! the last dimension are consecutive numbers: [`by_counting`] counts the owner down from tile to
+//! tile, and for [`by_runs`] a row of tiles is a few runs of heads, each copied and then counted out.
+
+use crate::plan_list::{in_shape, of_length, tiles, PlanList, CUTS, D, MATRIX, MODULI, P};
+
+/// One downward neighbour for each tile.
+pub fn by_neighbours(plan: &[u32], heads: &mut [u32], nexts: &mut [u32]) -> u32 {
+    match check(plan, heads, nexts) {
+        Ok(plan) => {
+            heads.fill(0);
+            walk(plan, nexts.len(), &mut Single::new(plan, heads, nexts));
+            0
+        }
+        Err(number) => number,
+    }
+}
+
+/// The owner counted down tile by tile where the plan allows it, else as [`by_neighbours`].
+pub fn by_counting(plan: &[u32], heads: &mut [u32], nexts: &mut [u32]) -> u32 {
+    match check(plan, heads, nexts) {
+        Ok(plan) if consecutive(plan) => {
+            heads.fill(0);
+            walk(plan, nexts.len(), &mut Counting { plan, heads, nexts });
+            0
+        }
+        Ok(plan) => by_neighbours(plan, heads, nexts),
+        Err(number) => number,
+    }
+}
+
+/// A run of heads at a time where the plan allows it, else as [`by_neighbours`].
+pub fn by_runs(plan: &[u32], heads: &mut [u32], nexts: &mut [u32]) -> u32 {
+    match check(plan, heads, nexts) {
+        Ok(plan) if consecutive(plan) => {
+            heads.fill(0);
+            walk(plan, nexts.len(), &mut Runs { plan, heads, nexts });
+            0
+        }
+        Ok(plan) => by_neighbours(plan, heads, nexts),
+        Err(number) => number,
+    }
+}
+
+/// Refusals 6 and 9.
+fn check<'a>(plan: &'a [u32], heads: &[u32], nexts: &[u32]) -> Result<&'a PlanList, u32> {
+    let plan = of_length(plan).filter(|plan| in_shape(plan)).ok_or(6u32)?;
+    if heads.len() == plan[P] as usize && nexts.len() == tiles(plan) as usize {
+        Ok(plan)
+    } else {
+        Err(9)
+    }
+}
+
+/// Does one step along the last dimension add one to the last coordinate and to no other?
+fn consecutive(plan: &PlanList) -> bool {
+    let last = plan[D] as usize - 1;
+    let column = |i: usize| plan[MATRIX + 5 * i + last];
+    (0..last).all(|i| column(i) == 0) && column(last) == 1 % plan[MODULI + last]
+}
+
+/// What is done with a row of tiles along the last dimension.
+trait Rows {
+    /// The row whose tiles come after `before` others; its last tile has these coordinates.
+    fn row(&mut self, before: usize, coordinates: &[u32; 5]);
+}
+
+/// Goes through the rows downward, keeping the coordinates of each row's last tile.
+fn walk(plan: &PlanList, tiles: usize, rows: &mut impl Rows) {
+    let d = plan[D] as usize;
+    let length = plan[CUTS + d - 1] as usize;
+    let mut position = [0; 5];
+    for k in 0..d {
+        position[k] = plan[CUTS + k] - 1;
+    }
+    let mut coordinates = coordinates_at(plan, &position);
+    let mut before = tiles;
+    while before > 0 {
+        before -= length;
+        rows.row(before, &coordinates);
+        // One row down; a division for each row does no harm.
+        let mut k = d - 1;
+        while k > 0 {
+            k -= 1;
+            if position[k] > 0 {
+                position[k] -= 1;
+                break;
+            }
+            position[k] = plan[CUTS + k] - 1;
+        }
+        coordinates = coordinates_at(plan, &position);
+    }
+}
+
+fn coordinates_at(plan: &PlanList, position: &[u32; 5]) -> [u32; 5] {
+    let mut coordinates = [0; 5];
+    let d = plan[D] as usize;
+    for i in 0..d {
+        let row = &plan[MATRIX + 5 * i..][..5];
+        let mut sum = 0;
+        for k in 0..d {
+            sum += row[k] * position[k];
+        }
+        coordinates[i] = sum % plan[MODULI + i];
+    }
+    coordinates
+}
+
+fn number_of(plan: &PlanList, coordinates: &[u32; 5]) -> u32 {
+    let d = plan[D] as usize;
+    let mut number = 0;
+    for i in 0..d {
+        number = number * plan[MODULI + i] + coordinates[i];
+    }
+    number
+}
+
+struct Single<'a> {
+    plan: &'a PlanList,
+    /// Each processor's downward neighbour along the last dimension.
+    down: Vec<u16>,
+    heads: &'a mut [u32],
+    nexts: &'a mut [u32],
+}
+
+impl<'a> Single<'a> {
+    fn new(plan: &'a PlanList, heads: &'a mut [u32], nexts: &'a mut [u32]) -> Single<'a> {
+        let last = plan[D] as usize - 1;
+        let down = (0..plan[P])
+            .map(|q| {
+                let mut left = q;
+                let mut coordinates = [0; 5];
+                for i in (0..=last).rev() {
+                    let modulus = plan[MODULI + i];
+                    let step = modulus - plan[MATRIX + 5 * i + last];
+                    coordinates[i] = (left % modulus + step) % modulus;
+                    left /= modulus;
+                }
+                number_of(plan, &coordinates) as u16
+            })
+            .collect();
+        Single {
+            plan,
+            down,
+            heads,
+            nexts,
+        }
+    }
+}
+
+impl Rows for Single<'_> {
+    #[inline]
+    fn row(&mut self, before: usize, coordinates: &[u32; 5]) {
+        let length = self.plan[CUTS + self.plan[D] as usize - 1] as usize;
+        let mut q = number_of(self.plan, coordinates) as usize;
+        let mut tile = (before + length) as u32;
+        for next in self.nexts[before..before + length].iter_mut().rev() {
+            let head = &mut self.heads[q];
+            *next = *head;
+            *head = tile;
+            q = usize::from(self.down[q]);
+            tile -= 1;
+        }
+    }
+}
+
+struct Counting<'a> {
+    plan: &'a PlanList,
+    heads: &'a mut [u32],
+    nexts: &'a mut [u32],
+}
+
+impl Rows for Counting<'_> {
+    #[inline]
+    fn row(&mut self, before: usize, coordinates: &[u32; 5]) {
+        let last = self.plan[D] as usize - 1;
+        let length = self.plan[CUTS + last] as usize;
+        let modulus = self.plan[MODULI + last] as usize;
+        let mut c = coordinates[last] as usize;
+        let base = number_of(self.plan, coordinates) as usize - c;
+        let heads = &mut self.heads[base..base + modulus];
+        let mut tile = (before + length) as u32;
+        for next in self.nexts[before..before + length].iter_mut().rev() {
+            *next = heads[c];
+            heads[c] = tile;
+            c = if c == 0 { modulus - 1 } else { c - 1 };
+            tile -= 1;
+        }
+    }
+}
+
+struct Runs<'a> {
+    plan: &'a PlanList,
+    heads: &'a mut [u32],
+    nexts: &'a mut [u32],
+}
+
+impl Rows for Runs<'_> {
+    #[inline]
+    fn row(&mut self, before: usize, coordinates: &[u32; 5]) {
+        let last = self.plan[D] as usize - 1;
+        let length = self.plan[CUTS + last] as usize;
+        let modulus = self.plan[MODULI + last] as usize;
+        let top = number_of(self.plan, coordinates) as usize;
+        let base = top - coordinates[last] as usize;
+        // The run that ends with the row's last tile goes down to coordinate 0; those below it are
+        // whole, but perhaps the first of the row.
+        let mut run = (coordinates[last] as usize + 1).min(length);
+        let mut from = top + 1 - run;
+        let mut end = before + length;
+        loop {
+            let heads = &mut self.heads[from..from + run];
+            let start = end - run;
+            self.nexts[start..end].copy_from_slice(heads);
+            for (head, tile) in heads.iter_mut().zip(start as u32 + 1..) {
+                *head = tile;
+            }
+            end = start;
+            if end == before {
+                return;
+            }
+            run = modulus.min(end - before);
+            from = base + modulus - run;
+        }
+    }
+}
+
+#[cfg(test)]
+mod tests {
+    use super::*;
+    use crate::plan_list::list_of;
+    use oracle::plan::plan_job;
+    use oracle::random::Random;
+
+    #[test]
+    fn all_ways_leave_the_oracles_lists() {
+        let mut random = Random::new(14);
+        let mut runs = 0;
+        for _ in 0..3000 {
+            let d = random.between(2, 5) as usize;
+            let p = random.between(1, 40) as u32;
+            let weights: Vec<u32> = (0..d).map(|_| random.between(0, 9) as u32).collect();
+            let mut plan = plan_job(p, d as u32, &vec![99; d], &weights).unwrap();
+            match random.between(0, 3) {
+                // A hand-made plan in shape: any rows, or other cuts.
+                0 => {
+                    for i in 0..d {
+                        for k in 0..d {
+                            let m = u64::from(plan.moduli[i]);
+                            plan.matrix[i][k] = random.between(0, m - 1) as u32;
+                        }
+                    }
+                }
+                1 => {
+                    let most = [99, 30, 9, 6][d - 2];
+                    plan.cuts[..d].fill_with(|| random.between(1, most) as u32);
+                }
+                _ => (),
+            }
+            let list = list_of(&plan);
+            runs += u32::from(consecutive(&list));
+            let tiles = plan.tiles() as usize;
+            let mut expected = (vec![7; p as usize], vec![7; tiles]);
+            oracle::chains::chains(&plan, &mut expected.0, &mut expected.1).unwrap();
+            for chains in [by_neighbours, by_counting, by_runs] {
+                let mut lists = (vec![7; p as usize], vec![7; tiles]);
+                assert_eq!(chains(&list, &mut lists.0, &mut lists.1), 0);
+                assert_eq!(lists, expected, "{plan:?}");
+            }
+        }
+        assert!(runs > 1000);
+    }
+
+    #[test]
+    fn refused_lists_keep_their_contents() {
+        let list = list_of(&plan_job(4, 3, &[8; 3], &[1; 3]).unwrap());
+        for chains in [by_neighbours, by_counting, by_runs] {
+            let (mut heads, mut nexts) = ([7; 4], [7; 9]);
+            assert_eq!(chains(&list, &mut heads, &mut nexts), 9);
+            assert_eq!(chains(&list[1..], &mut heads, &mut nexts), 6);
+            assert_eq!((heads, nexts), ([7; 4], [7; 9]));
+        }
+    }
+}

@@ -1,0 +1,209 @@
+//! The jobs, plans and questions that are timed.
+
+use crate::plan_list::{list_of, PlanList};
+use oracle::plan::{plan_job, Plan};
+use oracle::random::Random;
+
+/// A job in range, with d extents and weights.
+#[derive(Clone, Debug)]
+pub struct Job {
+    pub p: u32,
+    pub d: u32,
+    pub extents: Vec<u32>,
+    pub weights: Vec<u32>,
+}
+
+/// One job for every p up to 4,096 and every d, the weights and extents of many kinds.
+pub fn mix(seed: u64) -> Vec<Job> {
+    let mut random = Random::new(seed);
+    let mut jobs = Vec::new();
+    for p in 1..=4096 {
+        for d in 2..=5 {
+            let weights = weights(&mut random, d);
+            let extents = extents(&mut random, p, d);
+            jobs.push(Job {
+                p,
+                d,
+                extents,
+                weights,
+            });
+        }
+    }
+    jobs
+}
+
+fn weights(random: &mut Random, d: u32) -> Vec<u32> {
+    let kind = random.between(0, 7);
+    let huge = random.between(0, u64::from(d) - 1) as u32;
+    (0..d)
+        .map(|k| match kind {
+            0 => 1,
+            1 => 0,
+            2 => random.draw() as u32,
+            3 => 10u32.pow(k),
+            4 => 10u32.pow(d - 1 - k),
+            5 if k == huge => u32::MAX,
+            5 => 1,
+            6 => u32::MAX,
+            _ => random.between(0, 99) as u32,
+        })
+        .collect()
+}
+
+/// Roomy half of the time, else around the cuts of some plan, so that many barely fit or are refused.
+fn extents(random: &mut Random, p: u32, d: u32) -> Vec<u32> {
+    let roomy = vec![1_000_000; d as usize];
+    if random.once_in(2) {
+        return roomy;
+    }
+    let any: Vec<u32> = (0..d).map(|_| random.between(0, 999) as u32).collect();
+    let cuts = oracle::cuts::elementary(p, &roomy, &any).expect("a roomy grid has cuts");
+    let around = |b: u32| match random.between(0, 4) {
+        0 => (b - 1).max(1),
+        1 | 2 => b,
+        3 => 2 * b,
+        _ => 3 * b + 1,
+    };
+    cuts.into_iter().map(around).collect()
+}
+
+/// Jobs that take long in some way of planning: counts with many divisors, and weights that let a
+/// search leave little out.
+pub fn hard() -> Vec<Job> {
+    let counts = [
+        1680, 2520, 2640, 2880, 3024, 3240, 3360, 3600, 3696, 3780, 3840, 3960, 4032, 4080, 4096,
+    ];
+    let weights = [
+        [1, 1, 1, 1, 1],
+        [0, 0, 0, 0, 0],
+        [1, 10, 100, 1000, 10_000],
+        [10_000, 1000, 100, 10, 1],
+        [0, 1, 1, 1, 43_003_125],
+        [0, 0, 1, 30_809, 1559],
+        [0, 55, 58, 0, 1_762_324_234],
+        [4, 4, 4, 13, 410_143],
+        [u32::MAX; 5],
+    ];
+    let extents = [
+        [1_000_000; 5],
+        [1_000_000, 1_000_000, 1_000_000, 1_000_000, 1],
+        [56, 84, 12, 10, 9],
+        [29, 5, 14, 4, 3],
+    ];
+    let mut jobs = Vec::new();
+    for p in counts {
+        for weights in weights {
+            for extents in extents {
+                jobs.push(Job {
+                    p,
+                    d: 5,
+                    extents: extents.to_vec(),
+                    weights: weights.to_vec(),
+                });
+            }
+        }
+    }
+    jobs
+}
+
+/// Three dimensions: the counts with most divisors.
+pub fn three_dimensions() -> Vec<Job> {
+    let mut jobs = Vec::new();
+    for p in [1680, 2520, 3360, 3600, 3780, 3960, 4032] {
+        for weights in [[1, 1, 1], [1, 10, 100], [100, 10, 1], [3, 1000, 17]] {
+            jobs.push(Job {
+                p,
+                d: 3,
+                extents: vec![1_000_000; 3],
+                weights: weights.to_vec(),
+            });
+        }
+    }
+    jobs
+}
+
+/// A question of each kind about one plan, all to be answered.
+pub struct Question {
+    pub plan: PlanList,
+    pub position: Vec<u32>,
+    pub processor: u32,
+    pub dimension: u32,
+    pub up: bool,
+    pub slab: u32,
+    pub element: u32,
+}
+
+/// Questions about some plans of every d.
+pub fn questions(seed: u64, count: usize) -> Vec<Question> {
+    let mut random = Random::new(seed);
+    let mut plans: Vec<Plan> = Vec::new();
+    for p in [4, 30, 64, 360, 1000, 2520, 4096] {
+        for d in 2..=5 {
+            let extents = vec![100_000; d];
+            let weights: Vec<u32> = (0..d).map(|_| random.between(1, 9) as u32).collect();
+            plans.push(plan_job(p, d as u32, &extents, &weights).expect("a roomy grid has cuts"));
+        }
+    }
+    (0..count)
+        .map(|_| {
+            let plan = random.pick(&plans).clone();
+            let below = |random: &mut Random, n: u32| random.between(0, u64::from(n) - 1) as u32;
+            let k = below(&mut random, plan.d) as usize;
+            Question {
+                plan: list_of(&plan),
+                position: (0..plan.dimensions())
+                    .map(|k| below(&mut random, plan.cuts[k]))
+                    .collect(),
+                processor: below(&mut random, plan.p),
+                dimension: k as u32 + 1,
+                up: random.once_in(2),
+                slab: below(&mut random, plan.cuts[k]),
+                element: below(&mut random, plan.extents[k]),
+            }
+        })
+        .collect()
+}
+
+/// Plans of 16,777,216 tiles.
+pub fn largest_grids() -> Vec<(&'static str, PlanList)> {
+    let two = plan_job(4096, 2, &[4096; 2], &[1; 2]).expect("the grid of document 01");
+    // Uncut in one dimension, since the other weights are nothing beside the first.
+    let three = plan_job(4096, 3, &[4096; 3], &[u32::MAX, 0, 0]).expect("a roomy grid");
+    // Larger even cuts than the planner's own, with moduli and matrix by the same formulas.
+    let cubes = by_hand(4096, &[256, 256, 256]);
+    let five = by_hand(2048, &[16, 16, 16, 64, 64]);
+    [
+        ("chains, cuts 4096 4096", two),
+        ("chains, cuts 1 4096 4096", three),
+        ("chains, cuts 256 256 256", cubes),
+        ("chains, cuts 16 16 16 64 64", five),
+    ]
+    .map(|(what, plan)| (what, list_of(&plan)))
+    .to_vec()
+}
+
+fn by_hand(p: u32, cuts: &[u32]) -> Plan {
+    let d = cuts.len();
+    let mut plan = plan_job(p, d as u32, &vec![4096; d], &vec![1; d]).expect("a roomy grid");
+    plan.cuts[..d].copy_from_slice(cuts);
+    let moduli = oracle::matrix::moduli(p, cuts);
+    for (i, row) in oracle::matrix::matrix(cuts, &moduli).iter().enumerate() {
+        plan.matrix[i][..d].copy_from_slice(row);
+    }
+    plan.moduli[..d].copy_from_slice(&moduli);
+    plan
+}
+
+#[cfg(test)]
+mod tests {
+    use super::*;
+    use crate::plan_list::{in_shape, tiles};
+
+    #[test]
+    fn the_largest_grids_are_in_shape() {
+        for (what, plan) in largest_grids() {
+            assert!(in_shape(&plan), "{what}");
+            assert_eq!(tiles(&plan), 16_777_216, "{what}");
+        }
+    }
+}

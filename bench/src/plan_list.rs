@@ -1,0 +1,114 @@
+//! A plan as a list of 32-bit numbers, in the order of document 01: d, p, extents, weights, cuts,
+//! cost (low half first), moduli, matrix row by row.
+
+pub const D: usize = 0;
+pub const P: usize = 1;
+pub const EXTENTS: usize = 2;
+pub const WEIGHTS: usize = 7;
+pub const CUTS: usize = 12;
+pub const COST: usize = 17;
+pub const MODULI: usize = 19;
+pub const MATRIX: usize = 24;
+pub const LENGTH: usize = 49;
+
+pub type PlanList = [u32; LENGTH];
+
+/// The list as an array of the right length, or nothing.
+#[inline]
+pub fn of_length(list: &[u32]) -> Option<&PlanList> {
+    list.try_into().ok()
+}
+
+/// The list of a plan.
+pub fn list_of(plan: &oracle::plan::Plan) -> PlanList {
+    let mut list = [0; LENGTH];
+    list[D] = plan.d;
+    list[P] = plan.p;
+    list[EXTENTS..][..5].copy_from_slice(&plan.extents);
+    list[WEIGHTS..][..5].copy_from_slice(&plan.weights);
+    list[CUTS..][..5].copy_from_slice(&plan.cuts);
+    list[COST] = plan.cost as u32;
+    list[COST + 1] = (plan.cost >> 32) as u32;
+    list[MODULI..][..5].copy_from_slice(&plan.moduli);
+    for (i, row) in plan.matrix.iter().enumerate() {
+        list[MATRIX + 5 * i..][..5].copy_from_slice(row);
+    }
+    list
+}
+
+/// Refusal 6: is the plan in shape?
+#[inline]
+pub fn in_shape(plan: &PlanList) -> bool {
+    let d = plan[D] as usize;
+    if !(2..=5).contains(&d) || !(1..=4096).contains(&plan[P]) {
+        return false;
+    }
+    let mut fine = true;
+    let mut tiles = 1u64;
+    let mut processors = 1u64;
+    for k in 0..d {
+        let extent = plan[EXTENTS + k];
+        let cut = plan[CUTS + k];
+        let modulus = plan[MODULI + k];
+        // One comparison for each two-sided range.
+        fine &= extent.wrapping_sub(1) < 1_000_000;
+        fine &= cut.wrapping_sub(1) < extent.min(4096);
+        // At most 4096 to the fifth while the cuts are fine; a modulus is not above p.
+        tiles = tiles.wrapping_mul(u64::from(cut));
+        fine &= modulus.wrapping_sub(1) < plan[P];
+        processors = processors.wrapping_mul(u64::from(modulus));
+        let row = &plan[MATRIX + 5 * k..][..5];
+        for &entry in &row[..d] {
+            fine &= entry < modulus;
+        }
+    }
+    fine & (tiles <= 16_777_216) & (processors == u64::from(plan[P]))
+}
+
+/// The number of tiles of a plan in shape.
+#[inline]
+pub fn tiles(plan: &PlanList) -> u32 {
+    plan[CUTS..][..plan[D] as usize].iter().product()
+}
+
+#[cfg(test)]
+mod tests {
+    use super::*;
+    use oracle::plan::{plan_job, Plan};
+    use oracle::random::Random;
+
+    /// A plan with some of its numbers changed, most often still near the limits of its shape.
+    pub fn changed(plan: &Plan, random: &mut Random) -> Plan {
+        let mut plan = plan.clone();
+        for _ in 0..random.between(0, 2) {
+            let k = random.between(0, 4) as usize;
+            let j = random.between(0, 4) as usize;
+            let any = *random.pick(&[0, 1, 2, 4, 4096, 4097, 1_000_000, 1_000_001, u32::MAX]);
+            match random.between(0, 5) {
+                0 => plan.d = random.between(0, 7) as u32,
+                1 => plan.p = any,
+                2 => plan.extents[k] = any,
+                3 => plan.cuts[k] = any,
+                4 => plan.moduli[k] = any,
+                _ => plan.matrix[k][j] = random.between(0, 9) as u32,
+            }
+        }
+        plan
+    }
+
+    #[test]
+    fn shape_as_the_oracle_sees_it() {
+        let mut random = Random::new(11);
+        let mut seen = [0; 2];
+        for _ in 0..20_000 {
+            let p = random.between(1, 40) as u32;
+            let d = random.between(2, 5) as u32;
+            let plan = plan_job(p, d, &[40; 5][..d as usize], &[1; 5][..d as usize]).unwrap();
+            let plan = changed(&plan, &mut random);
+            let expected = plan.check_shape().is_ok();
+            assert_eq!(in_shape(&list_of(&plan)), expected, "{plan:?}");
+            seen[usize::from(expected)] += 1;
+        }
+        assert!(seen[0] > 3000 && seen[1] > 3000, "{seen:?}");
+    }
+}
