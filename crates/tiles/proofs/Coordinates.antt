@@ -1,0 +1,169 @@
+-- Positions by value and the lists of their coordinates, read by places, counted from 0; and how a loop fills the five places.
+use mathlib.Core.Path.{_≡_, refl, sym, ap, _∙_}
+use mathlib.Core.Bool.{Bool, true, false, _&&_}
+use mathlib.Core.List.{List, [], _∷_, _++_}
+use mathlib.Core.Logic.{⊎-elim}
+use Prim.Native.Nat.{ℕ, zero, suc, _+_, _*_, _/_, _%_, _<_, _≤_}
+use native.Mathlib.Nat.{le-refl, eq-or-lt-of-le, mul-le-mul, mul-div-right}
+use native.Mathlib.Decide.{decLt}
+use native.Mathlib.Numerals.{add-one}
+use native.Mathlib.Omega.{arith}
+use lib.Arith.{digits-lt}
+use lib.Dec.{ltb, eqb}
+use lib.ListN.{length, getD, set, take, drop, replicate, length-append, length-replicate, length-set, List·getD-eq-default}
+use lib.Seq.{length-take-le, take-append-le, getD-take, getD-set-same, getD-set-other, take-set-lt, set-append-left, ext-getD}
+use borrow.Author.Tests.{eqb-true}
+use Rattle.numbers.specs.Products.{product}
+use Rattle.multipartition.specs.MixedRadix.{numberFrom, digitsOf}
+use Rattle.multipartition.specs.Lists.{allBelow}
+use Rattle.multipartition.specs.Tiles.{isInside}
+use Rattle.layout.specs.declared.Plan.{Plan}
+use Rattle.layout.specs.Plans.{layoutOf, five}
+use Rattle.layout.specs.Positions.{InGrid}
+use Rattle.layout.specs.Shaped.{Shaped}
+use Rattle.layout.proofs.Lists.{all-ext, product-add-one, product-front}
+use Rattle.layout.proofs.Positions.{inside-of-plan}
+use Rattle.layout.proofs.Owners.{number-none, number-add-one}
+use Rattle.layout.proofs.Plans.{take-five}
+use Rattle.tiles.specs.declared.positions.Position.{Position}
+use Rattle.tiles.specs.Positions.{coordinates, positionWith}
+
+-- ---- coordinates
+
+pub length-coordinates : (position : Position) → length (coordinates position) ≡ position .d
+unfolding coordinates
+length-coordinates position =
+    length-take-le (position .d) (position .at ++ replicate (position .d) 0)
+    (omega (arith, length-append (position .at) (replicate (position .d) 0), length-replicate {A = ℕ} (position .d) 0))
+
+zeros-at : (n k : ℕ) → getD {A = ℕ} (replicate n 0) k 0 ≡ 0
+zeros-at zero k = refl
+zeros-at (suc n) zero = refl
+zeros-at (suc n) (suc k) = zeros-at n k
+
+before-zeros : (xs : List ℕ) (n k : ℕ) → getD (xs ++ replicate n 0) k 0 ≡ getD xs k 0
+before-zeros [] n k = zeros-at n k
+before-zeros (x ∷ xs) n zero = refl
+before-zeros (x ∷ xs) n (suc k) = before-zeros xs n k
+
+pub coordinate-at : (position : Position) (k : ℕ) → k < position .d → getD (coordinates position) k 0 ≡ getD (position .at) k 0
+unfolding coordinates
+coordinate-at position k l =
+    getD-take (position .d) (position .at ++ replicate (position .d) 0) k 0 l ∙ before-zeros (position .at) (position .d) k
+
+length-five : (xs : List ℕ) → length (five xs) ≡ 5
+length-five xs = length-take-le 5 (xs ++ replicate 5 0) (omega (arith, length-append xs (replicate 5 0)))
+
+pub coordinates-with : (xs : List ℕ) → length xs ≤ 5 → coordinates (positionWith xs) ≡ xs
+unfolding coordinates
+coordinates-with xs few =
+    take-append-le (length xs) (five xs) (replicate (length xs) 0) (omega (arith, length-five xs)) ∙ take-five (length xs) xs few refl
+
+pub five-set : (xs : List ℕ) (k x : ℕ) → length xs ≤ 5 → k < length xs → set (five xs) k x ≡ five (set xs k x)
+five-set xs k x few l =
+    sym (take-set-lt 5 (xs ++ replicate 5 0) k x (omega arith)) ∙ ap (take 5) (set-append-left xs (replicate 5 0) k x l)
+
+-- ---- positions of the grid
+
+pub grid-d : (plan : Plan) (position : Position) → InGrid plan (coordinates position) → position .d ≡ plan .d
+grid-d plan position g = sym (length-coordinates position) ∙ g .coordinates
+
+pub grid-at : (plan : Plan) (position : Position) → InGrid plan (coordinates position) → (k : ℕ) → k < plan .d
+    → getD (coordinates position) k 0 ≡ getD (position .at) k 0
+grid-at plan position g k l = coordinate-at position k (omega (arith, grid-d plan position g))
+
+-- the test of the grid, in the position's own places
+pub inside-by-places : (plan : Plan) → Shaped plan → (position : Position)
+    → (eqb (position .d) (plan .d) && allBelow (plan .d) (λ k. ltb (getD (position .at) k 0) (getD (plan .cuts) k 0)))
+    ≡ isInside (layoutOf plan .cuts) (coordinates position)
+inside-by-places plan s position =
+    sym (rw (inside-of-plan plan s (coordinates position), length-coordinates position) (go (eqb (position .d) (plan .d)) refl))
+  where
+    go : (t : Bool) → eqb (position .d) (plan .d) ≡ t
+        → (t && allBelow (plan .d) (λ k. ltb (getD (coordinates position) k 0) (getD (plan .cuts) k 0)))
+        ≡ (t && allBelow (plan .d) (λ k. ltb (getD (position .at) k 0) (getD (plan .cuts) k 0)))
+    go false e = refl
+    go true e =
+        all-ext (plan .d) _ _
+        (λ k l. ap (λ (i : ℕ). ltb i (getD (plan .cuts) k 0)) (coordinate-at position k (omega (arith, eqb-true (position .d) (plan .d) e))))
+
+-- ---- five places, filled from the front
+
+-- the first k places hold the first k numbers of a list, the others zero
+pub record Filled (xs : List ℕ) (k : ℕ) (at : List ℕ) : Type 0 where
+  pub long : length at ≡ 5
+  pub front : (i : ℕ) → i < k → getD at i 0 ≡ getD xs i 0
+  pub behind : (i : ℕ) → k ≤ i → getD at i 0 ≡ 0
+
+pub filled-none : (xs : List ℕ) → Filled xs 0 (replicate 5 0)
+filled-none xs = record { long = refl; front = λ i l. absurd (omega arith); behind = λ i l. zeros-at 5 i }
+
+pub filled-more : (xs : List ℕ) (k : ℕ) (at : List ℕ) → k < 5 → Filled xs k at → Filled xs (k + 1) (set at k (getD xs k 0))
+filled-more xs k at l f =
+    record {
+      long = length-set at k (getD xs k 0) ∙ f .long;
+      front = λ i m.
+          let upto : i ≤ k = omega arith in
+          ⊎-elim
+          (λ same. rw same (getD-set-same at k (getD xs k 0) 0 (omega (arith, f .long))))
+          (λ below. getD-set-other at k i (getD xs k 0) 0 (λ same. absurd (omega arith)) ∙ f .front i below)
+          (eq-or-lt-of-le upto);
+      behind = λ i m. getD-set-other at k i (getD xs k 0) 0 (λ same. absurd (omega arith)) ∙ f .behind i (omega arith);
+    }
+
+pub filled-all : (xs at : List ℕ) → length xs ≤ 5 → Filled xs (length xs) at → at ≡ five xs
+filled-all xs at few f =
+    ext-getD 0 at (five xs) (f .long ∙ sym (length-five xs)) (λ i l. place i (decLt i (length xs)) ∙ sym (getD-take 5 (xs ++ replicate 5 0) i 0 (omega (arith, f .long)) ∙ before-zeros xs 5 i))
+  where
+    place : (i : ℕ) → Dec (i < length xs) → getD at i 0 ≡ getD xs i 0
+    place i (yes l) = f .front i l
+    place i (no n) = let past : length xs ≤ i = omega (arith, n) in f .behind i past ∙ sym (List·getD-eq-default xs 0 past)
+
+-- ---- numbers and digits
+
+-- coordinates below their cuts make a number below the cuts' product
+pub number-front-below : (bases digits : List ℕ) (k : ℕ) → k ≤ length bases → ((i : ℕ) → i < k → getD digits i 0 < getD bases i 0)
+    → numberFrom 0 (take k bases) digits < product (take k bases)
+number-front-below bases digits zero l h = rw (number-none 0 bases digits) (omega arith)
+number-front-below bases digits (suc k) l h =
+    rw (← add-one k, number-add-one 0 bases digits k (omega arith), product-add-one bases k (omega arith))
+    (digits-lt (number-front-below bases digits k (omega arith) (λ i m. h i (omega arith))) (h k (omega arith)))
+
+-- so the number of the first k coordinates stays below the number of tiles
+pub number-small : (plan : Plan) → Shaped plan → (position : List ℕ) → InGrid plan position → (k : ℕ) → k ≤ plan .d
+    → numberFrom 0 (take k (plan .cuts)) position < 16777216
+number-small plan s position g k l =
+    omega (
+      arith,
+      number-front-below (plan .cuts) position k (omega (arith, s .cuts-long)) (λ i m. g .below i (omega arith)),
+      product-front (plan .cuts) (plan .d) (s .cuts-long) (s .cut-low) k l,
+      s .tiles-high,
+    )
+
+pub length-digits : (bases : List ℕ) (n : ℕ) → length (digitsOf bases n) ≡ length bases
+unfolding digitsOf
+length-digits [] n = refl
+length-digits (b ∷ bases) n = ap suc (length-digits bases n)
+
+pub digit-at : (bases : List ℕ) (n k : ℕ) → k < length bases → getD (digitsOf bases n) k 0 ≡ n / product (drop (k + 1) bases) % getD bases k 0
+unfolding digitsOf
+digit-at [] n k l = absurd (omega arith)
+digit-at (b ∷ bases) n zero l = refl
+digit-at (b ∷ bases) n (suc k) l = rw (add-one (suc k)) (rw (add-one k) at (digit-at bases n k (omega arith)))
+
+-- the product of the later bases, one base fewer at a time
+product-later : (bases : List ℕ) (k : ℕ) → k < length bases → product (drop k bases) ≡ getD bases k 0 * product (drop (suc k) bases)
+product-later [] k l = absurd (omega arith)
+product-later (b ∷ bases) zero l = refl
+product-later (b ∷ bases) (suc k) l = product-later bases k (omega arith)
+
+pub later-pos : (bases : List ℕ) → ((i : ℕ) → i < length bases → 1 ≤ getD bases i 0) → (k : ℕ) → 1 ≤ product (drop k bases)
+later-pos [] h zero = le-refl 1
+later-pos [] h (suc k) = le-refl 1
+later-pos (b ∷ bases) h zero = mul-le-mul (h 0 (omega arith)) (later-pos bases (λ i l. h (suc i) (omega arith)) zero)
+later-pos (b ∷ bases) h (suc k) = later-pos bases (λ i l. h (suc i) (omega arith)) k
+
+-- dividing by a base leaves the later ones
+pub divide-later : (bases : List ℕ) (k : ℕ) → k < length bases → 1 ≤ getD bases k 0
+    → product (drop k bases) / getD bases k 0 ≡ product (drop (k + 1) bases)
+divide-later bases k l low = rw (product-later bases k l, add-one) (mul-div-right (product (drop (suc k) bases)) low)

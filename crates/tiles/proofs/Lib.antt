@@ -1,0 +1,3 @@
+pub mod Dimensions
+pub mod Coordinates
+pub mod Steps

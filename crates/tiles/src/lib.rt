@@ -1,0 +1,3 @@
+// Tiles and slabs of a plan.
+pub mod positions; // positions.rt: a tile's position, its number, and the position one step on
+pub mod slabs; // slabs.rt: the elements of a slab, and the slab of an element

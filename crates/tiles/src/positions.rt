@@ -1,0 +1,277 @@
+// A tile's position by value: its number, and the position one step on. Dimensions and tiles are numbered from 1, slabs from 0.
+use layout::Plan;
+ghost use mathlib.Core.Bool.{true, false};
+ghost use mathlib.Core.Path.{_≡_};
+ghost use Prim.Native.Nat.{_<_, _≤_};
+ghost use lib.ListN.{set};
+ghost use Rattle.multipartition.specs.Answers.{answered, refused as theRefusal};
+ghost use Rattle.multipartition.specs.MixedRadix.{numberFrom, digitsOf};
+ghost use Rattle.multipartition.specs.Tiles.{isInside, oneStepOn};
+ghost use Rattle.multipartition.specs.Questions.{numberAnswer, stepAnswer, positionAnswer};
+ghost use Rattle.layout.specs.Plans.{layoutOf};
+ghost use Rattle.layout.specs.Positions.{InGrid};
+ghost use Rattle.layout.specs.Shaped.{Shaped};
+ghost use Rattle.tiles.specs.Positions.{coordinates, positionWith, nowhere};
+ghost use Rattle.tiles.specs.Answers.{toldNumber, Moves, Locates};
+
+// The coordinate along dimension k stands at place k - 1. Places past d are never read, and are zero in answers.
+pub struct Position {
+    pub d: usize,
+    pub at: [u32; 5],
+}
+
+pub enum TileNumber {
+    Tile(u32),
+    Refused { number: u32, place: u32 },
+}
+
+pub enum Step {
+    Inside,
+    Edge,
+    Refused { number: u32, place: u32 },
+}
+
+// Where a step leads: the position is all zero unless the step stays inside.
+pub struct Moved {
+    pub step: Step,
+    pub position: Position,
+}
+
+pub enum Lookup {
+    Found,
+    Refused { number: u32, place: u32 },
+}
+
+// Where a tile lies: the position is all zero unless it is found.
+pub struct Located {
+    pub lookup: Lookup,
+    pub position: Position,
+}
+
+impl Position {
+    fn nowhere() -> Self
+        ensures { λ r. ⌜ r ≡ nowhere ⌝ }
+    {
+        Position { d: 0, at: [0; 5] }
+    }
+
+    // Whether the position is one of the grid of a plan in shape.
+    fn in_grid(self, plan: Plan) -> bool
+        requires { ⌜ Shaped plan ⌝ }
+        ensures { λ r. ⌜ r ≡ isInside (layoutOf plan .cuts) (coordinates self) ⌝ }
+    {
+        let d = plan.d;
+        let mut ok = true;
+        for k in 0..d {
+            ok = ok & (self.at[k] < plan.cuts[k]);
+        }
+        let n = self.d;
+        (n == d) & ok
+    }
+
+    // The number that the coordinates make in mixed radix, from 0 on.
+    fn number_from_zero(self, plan: Plan) -> u32
+        requires { ⌜ (Shaped plan) × (InGrid plan (coordinates self)) ⌝ }
+        ensures { λ r. ⌜ (r ≡ numberFrom 0 (layoutOf plan .cuts) (coordinates self)) × (r < 16777216) ⌝ }
+    {
+        let d = plan.d;
+        let mut number: u32 = 0;
+        for k in 0..d {
+            number = number * plan.cuts[k] + self.at[k];
+        }
+        number
+    }
+
+    // The tile's number.
+    pub fn number(self, plan: Plan) -> TileNumber
+        ensures { λ r. ⌜ toldNumber r ≡ numberAnswer (layoutOf plan) (coordinates self) ⌝ }
+    {
+        if layout::in_shape(plan) {
+            if self.in_grid(plan) {
+                return TileNumber::Tile(1 + self.number_from_zero(plan));
+            }
+            return TileNumber::Refused {
+                number: 8,
+                place: 0,
+            };
+        }
+        TileNumber::Refused {
+            number: 6,
+            place: 0,
+        }
+    }
+
+    // The same coordinates, with zero past them.
+    fn cleared(self) -> Position
+        requires { ⌜ self .d ≤ 5 ⌝ }
+        ensures { λ r. ⌜ r ≡ positionWith (coordinates self) ⌝ }
+    {
+        let d = self.d;
+        let mut at = [0; 5];
+        for k in 0..d {
+            at[k] = self.at[k];
+        }
+        Position { d: d, at: at }
+    }
+
+    // The position with coordinate x at place k.
+    fn with(self, k: usize, x: u32) -> Position
+        requires { ⌜ (self .d ≤ 5) × (k < self .d) ⌝ }
+        ensures { λ r. ⌜ r ≡ positionWith (set (coordinates self) k x) ⌝ }
+    {
+        let mut next = self.cleared();
+        next.at[k] = x;
+        next
+    }
+
+    // One step up along place k of a position of the grid.
+    fn one_up(self, plan: Plan, k: usize) -> Moved
+        requires { ⌜ (Shaped plan) × (InGrid plan (coordinates self)) × (k < plan .d) ⌝ }
+        ensures { λ r. ⌜ Moves (answered (oneStepOn (layoutOf plan .cuts) k true (coordinates self))) r ⌝ }
+    {
+        let x = self.at[k] + 1;
+        if x < plan.cuts[k] {
+            let step = Step::Inside;
+            let next = self.with(k, x);
+            return Moved {
+                step: step,
+                position: next,
+            };
+        }
+        let step = Step::Edge;
+        let none = Position::nowhere();
+        Moved {
+            step: step,
+            position: none,
+        }
+    }
+
+    // One step down along place k of a position of the grid.
+    fn one_down(self, plan: Plan, k: usize) -> Moved
+        requires { ⌜ (Shaped plan) × (InGrid plan (coordinates self)) × (k < plan .d) ⌝ }
+        ensures { λ r. ⌜ Moves (answered (oneStepOn (layoutOf plan .cuts) k false (coordinates self))) r ⌝ }
+    {
+        let x = self.at[k];
+        if 0 < x {
+            let step = Step::Inside;
+            let next = self.with(k, x - 1);
+            return Moved {
+                step: step,
+                position: next,
+            };
+        }
+        let step = Step::Edge;
+        let none = Position::nowhere();
+        Moved {
+            step: step,
+            position: none,
+        }
+    }
+
+    // The step of a plan in shape.
+    fn step_in_shape(self, plan: Plan, dimension: usize, up: bool) -> Moved
+        requires { ⌜ Shaped plan ⌝ }
+        ensures { λ r. ⌜ Moves (stepAnswer (layoutOf plan) (coordinates self) dimension up) r ⌝ }
+    {
+        if dimension < 1 {
+            return not_moved(7);
+        }
+        if plan.d < dimension {
+            return not_moved(7);
+        }
+        if self.in_grid(plan) {
+            let k = dimension - 1;
+            if up {
+                return self.one_up(plan, k);
+            }
+            return self.one_down(plan, k);
+        }
+        not_moved(8)
+    }
+
+    // The position one step on along a dimension, up or down, or the edge.
+    pub fn step(self, plan: Plan, dimension: usize, up: bool) -> Moved
+        ensures { λ r. ⌜ Moves (stepAnswer (layoutOf plan) (coordinates self) dimension up) r ⌝ }
+    {
+        if layout::in_shape(plan) {
+            return self.step_in_shape(plan, dimension, up);
+        }
+        not_moved(6)
+    }
+}
+
+// A refused step.
+fn not_moved(number: u32) -> Moved
+    ensures { λ r. ⌜ Moves (theRefusal number 0) r ⌝ }
+{
+    let step = Step::Refused {
+        number: number,
+        place: 0,
+    };
+    let none = Position::nowhere();
+    Moved {
+        step: step,
+        position: none,
+    }
+}
+
+// A refused lookup.
+fn not_found(number: u32) -> Located
+    ensures { λ r. ⌜ Locates (theRefusal number 0) r ⌝ }
+{
+    let lookup = Lookup::Refused {
+        number: number,
+        place: 0,
+    };
+    let none = Position::nowhere();
+    Located {
+        lookup: lookup,
+        position: none,
+    }
+}
+
+// The coordinates that make a number in mixed radix, from 0 on: `later` is the product of the later cuts.
+fn digits(plan: Plan, n: u32) -> Position
+    requires { ⌜ Shaped plan ⌝ }
+    ensures { λ r. ⌜ r ≡ positionWith (digitsOf (layoutOf plan .cuts) n) ⌝ }
+{
+    let d = plan.d;
+    let mut at = [0; 5];
+    let mut later = layout::tile_count(plan) as u32;
+    for k in 0..d {
+        let b = plan.cuts[k];
+        later = later / b;
+        at[k] = n / later % b;
+    }
+    Position { d: d, at: at }
+}
+
+// The position of a tile of a plan in shape.
+fn position_in_shape(plan: Plan, tile: u32) -> Located
+    requires { ⌜ Shaped plan ⌝ }
+    ensures { λ r. ⌜ Locates (positionAnswer (layoutOf plan) tile) r ⌝ }
+{
+    if tile < 1 {
+        return not_found(8);
+    }
+    let tiles = layout::tile_count(plan) as u32;
+    if tiles < tile {
+        return not_found(8);
+    }
+    let lookup = Lookup::Found;
+    let position = digits(plan, tile - 1);
+    Located {
+        lookup: lookup,
+        position: position,
+    }
+}
+
+// The position of a tile.
+pub fn position_of(plan: Plan, tile: u32) -> Located
+    ensures { λ r. ⌜ Locates (positionAnswer (layoutOf plan) tile) r ⌝ }
+{
+    if layout::in_shape(plan) {
+        return position_in_shape(plan, tile);
+    }
+    not_found(6)
+}

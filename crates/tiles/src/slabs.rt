@@ -1,0 +1,122 @@
+// The elements of a slab, and the slab of an element. Dimensions are numbered from 1.
+use layout::Plan;
+ghost use mathlib.Core.Path.{_≡_};
+ghost use Prim.Native.Nat.{_<_, _≤_};
+ghost use Rattle.multipartition.specs.Slabs.{slabStart, slabOf};
+ghost use Rattle.multipartition.specs.Questions.{slabAnswer, slabOfAnswer};
+ghost use Rattle.layout.specs.Plans.{layoutOf};
+ghost use Rattle.layout.specs.Shaped.{Shaped};
+ghost use Rattle.tiles.specs.Answers.{toldElements, toldSlab};
+
+pub enum Elements {
+    // from `first` up to but not including `after`
+    Range { first: u32, after: u32 },
+    Refused { number: u32, place: u32 },
+}
+
+pub enum SlabNumber {
+    Slab(u32),
+    Refused { number: u32, place: u32 },
+}
+
+// The first element of slab s of n elements in b slabs. The product is at most 4096 * 1000000, which fits 32 bits.
+fn start(n: u32, b: u32, s: u32) -> u32
+    requires { ⌜ (n ≤ 1000000) × (1 ≤ b) × (b ≤ 4096) × (s ≤ b) ⌝ }
+    ensures { λ r. ⌜ r ≡ slabStart n b s ⌝ }
+{
+    s * n / b
+}
+
+// The slab of an element of n elements in b slabs.
+fn holding(n: u32, b: u32, element: u32) -> u32
+    requires { ⌜ (n ≤ 1000000) × (1 ≤ b) × (b ≤ 4096) × (b ≤ n) × (element < n) ⌝ }
+    ensures { λ r. ⌜ r ≡ slabOf n b element ⌝ }
+{
+    ((element + 1) * b - 1) / n
+}
+
+// The elements of a slab of a plan in shape.
+fn range_of(plan: Plan, dimension: usize, slab: u32) -> Elements
+    requires { ⌜ Shaped plan ⌝ }
+    ensures { λ r. ⌜ toldElements r ≡ slabAnswer (layoutOf plan) dimension slab ⌝ }
+{
+    if dimension < 1 {
+        return Elements::Refused {
+            number: 7,
+            place: 0,
+        };
+    }
+    if plan.d < dimension {
+        return Elements::Refused {
+            number: 7,
+            place: 0,
+        };
+    }
+    let k = dimension - 1;
+    let b = plan.cuts[k];
+    if b <= slab {
+        return Elements::Refused {
+            number: 8,
+            place: 0,
+        };
+    }
+    let n = plan.extents[k];
+    Elements::Range {
+        first: start(n, b, slab),
+        after: start(n, b, slab + 1),
+    }
+}
+
+// The elements of slab `slab` of a dimension.
+pub fn slab_elements(plan: Plan, dimension: usize, slab: u32) -> Elements
+    ensures { λ r. ⌜ toldElements r ≡ slabAnswer (layoutOf plan) dimension slab ⌝ }
+{
+    if layout::in_shape(plan) {
+        return range_of(plan, dimension, slab);
+    }
+    Elements::Refused {
+        number: 6,
+        place: 0,
+    }
+}
+
+// The slab of an element of a plan in shape.
+fn slab_holding(plan: Plan, dimension: usize, element: u32) -> SlabNumber
+    requires { ⌜ Shaped plan ⌝ }
+    ensures { λ r. ⌜ toldSlab r ≡ slabOfAnswer (layoutOf plan) dimension element ⌝ }
+{
+    if dimension < 1 {
+        return SlabNumber::Refused {
+            number: 7,
+            place: 0,
+        };
+    }
+    if plan.d < dimension {
+        return SlabNumber::Refused {
+            number: 7,
+            place: 0,
+        };
+    }
+    let k = dimension - 1;
+    let n = plan.extents[k];
+    if n <= element {
+        return SlabNumber::Refused {
+            number: 8,
+            place: 0,
+        };
+    }
+    SlabNumber::Slab(holding(n, plan.cuts[k], element))
+}
+
+// The slab that holds an element of a dimension.
+pub fn slab_of(plan: Plan, dimension: usize, element: u32) -> SlabNumber
+    ensures { λ r. ⌜ toldSlab r ≡ slabOfAnswer (layoutOf plan) dimension element ⌝ }
+{
+    if layout::in_shape(plan) {
+        return slab_holding(plan, dimension, element);
+    }
+    SlabNumber::Refused {
+        number: 6,
+        place: 0,
+    }
+}
