@@ -1,3 +1,3 @@
-pub mod Dimensions
+pub mod Numbering
 pub mod Coordinates
 pub mod Steps

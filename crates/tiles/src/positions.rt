@@ -1,8 +1,9 @@
 // A tile's position by value: its number, and the position one step on. Dimensions and tiles are numbered from 1, slabs from 0.
+use crate::dimensions::has_dimension;
 use layout::Plan;
 ghost use mathlib.Core.Bool.{true, false};
 ghost use mathlib.Core.Path.{_≡_};
-ghost use Prim.Native.Nat.{_<_, _≤_};
+ghost use Prim.Native.Nat.{_+_, _<_, _≤_};
 ghost use lib.ListN.{set};
 ghost use Rattle.multipartition.specs.Answers.{answered, refused as theRefusal};
 ghost use Rattle.multipartition.specs.MixedRadix.{numberFrom, digitsOf};
@@ -86,19 +87,19 @@ impl Position {
     pub fn number(self, plan: Plan) -> TileNumber
         ensures { λ r. ⌜ toldNumber r ≡ numberAnswer (layoutOf plan) (coordinates self) ⌝ }
     {
-        if layout::in_shape(plan) {
-            if self.in_grid(plan) {
-                return TileNumber::Tile(1 + self.number_from_zero(plan));
-            }
+        if !layout::in_shape(plan) {
+            return TileNumber::Refused {
+                number: 6,
+                place: 0,
+            };
+        }
+        if !self.in_grid(plan) {
             return TileNumber::Refused {
                 number: 8,
                 place: 0,
             };
         }
-        TileNumber::Refused {
-            number: 6,
-            place: 0,
-        }
+        TileNumber::Tile(1 + self.number_from_zero(plan))
     }
 
     // The same coordinates, with zero past them.
@@ -168,35 +169,31 @@ impl Position {
         }
     }
 
-    // The step of a plan in shape.
-    fn step_in_shape(self, plan: Plan, dimension: usize, up: bool) -> Moved
-        requires { ⌜ Shaped plan ⌝ }
-        ensures { λ r. ⌜ Moves (stepAnswer (layoutOf plan) (coordinates self) dimension up) r ⌝ }
+    // The position one step on along place k.
+    fn step_along(self, plan: Plan, k: usize, up: bool) -> Moved
+        requires { ⌜ (Shaped plan) × (k < plan .d) ⌝ }
+        ensures { λ r. ⌜ Moves (stepAnswer (layoutOf plan) (coordinates self) (k + 1) up) r ⌝ }
     {
-        if dimension < 1 {
-            return not_moved(7);
+        if !self.in_grid(plan) {
+            return not_moved(8);
         }
-        if plan.d < dimension {
-            return not_moved(7);
+        if up {
+            return self.one_up(plan, k);
         }
-        if self.in_grid(plan) {
-            let k = dimension - 1;
-            if up {
-                return self.one_up(plan, k);
-            }
-            return self.one_down(plan, k);
-        }
-        not_moved(8)
+        self.one_down(plan, k)
     }
 
     // The position one step on along a dimension, up or down, or the edge.
     pub fn step(self, plan: Plan, dimension: usize, up: bool) -> Moved
         ensures { λ r. ⌜ Moves (stepAnswer (layoutOf plan) (coordinates self) dimension up) r ⌝ }
     {
-        if layout::in_shape(plan) {
-            return self.step_in_shape(plan, dimension, up);
+        if !layout::in_shape(plan) {
+            return not_moved(6);
         }
-        not_moved(6)
+        if !has_dimension(plan, dimension) {
+            return not_moved(7);
+        }
+        self.step_along(plan, dimension - 1, up)
     }
 }
 
@@ -247,7 +244,7 @@ fn digits(plan: Plan, n: u32) -> Position
 }
 
 // The position of a tile of a plan in shape.
-fn position_in_shape(plan: Plan, tile: u32) -> Located
+fn find(plan: Plan, tile: u32) -> Located
     requires { ⌜ Shaped plan ⌝ }
     ensures { λ r. ⌜ Locates (positionAnswer (layoutOf plan) tile) r ⌝ }
 {
@@ -270,8 +267,8 @@ fn position_in_shape(plan: Plan, tile: u32) -> Located
 pub fn position_of(plan: Plan, tile: u32) -> Located
     ensures { λ r. ⌜ Locates (positionAnswer (layoutOf plan) tile) r ⌝ }
 {
-    if layout::in_shape(plan) {
-        return position_in_shape(plan, tile);
+    if !layout::in_shape(plan) {
+        return not_found(6);
     }
-    not_found(6)
+    find(plan, tile)
 }

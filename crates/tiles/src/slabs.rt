@@ -1,7 +1,8 @@
 // The elements of a slab, and the slab of an element. Dimensions are numbered from 1.
+use crate::dimensions::has_dimension;
 use layout::Plan;
 ghost use mathlib.Core.Path.{_≡_};
-ghost use Prim.Native.Nat.{_<_, _≤_};
+ghost use Prim.Native.Nat.{_+_, _<_, _≤_};
 ghost use Rattle.multipartition.specs.Slabs.{slabStart, slabOf};
 ghost use Rattle.multipartition.specs.Questions.{slabAnswer, slabOfAnswer};
 ghost use Rattle.layout.specs.Plans.{layoutOf};
@@ -35,24 +36,12 @@ fn holding(n: u32, b: u32, element: u32) -> u32
     ((element + 1) * b - 1) / n
 }
 
-// The elements of a slab of a plan in shape.
-fn range_of(plan: Plan, dimension: usize, slab: u32) -> Elements
-    requires { ⌜ Shaped plan ⌝ }
-    ensures { λ r. ⌜ toldElements r ≡ slabAnswer (layoutOf plan) dimension slab ⌝ }
+// The elements of a slab along place k.
+fn range_of(plan: Plan, k: usize, slab: u32) -> Elements
+    requires { ⌜ (Shaped plan) × (k < plan .d) ⌝ }
+    ensures { λ r. ⌜ toldElements r ≡ slabAnswer (layoutOf plan) (k + 1) slab ⌝ }
 {
-    if dimension < 1 {
-        return Elements::Refused {
-            number: 7,
-            place: 0,
-        };
-    }
-    if plan.d < dimension {
-        return Elements::Refused {
-            number: 7,
-            place: 0,
-        };
-    }
-    let k = dimension - 1;
+    let n = plan.extents[k];
     let b = plan.cuts[k];
     if b <= slab {
         return Elements::Refused {
@@ -60,63 +49,62 @@ fn range_of(plan: Plan, dimension: usize, slab: u32) -> Elements
             place: 0,
         };
     }
-    let n = plan.extents[k];
     Elements::Range {
         first: start(n, b, slab),
         after: start(n, b, slab + 1),
     }
 }
 
-// The elements of slab `slab` of a dimension.
+// The elements of a slab of a dimension.
 pub fn slab_elements(plan: Plan, dimension: usize, slab: u32) -> Elements
     ensures { λ r. ⌜ toldElements r ≡ slabAnswer (layoutOf plan) dimension slab ⌝ }
 {
-    if layout::in_shape(plan) {
-        return range_of(plan, dimension, slab);
+    if !layout::in_shape(plan) {
+        return Elements::Refused {
+            number: 6,
+            place: 0,
+        };
     }
-    Elements::Refused {
-        number: 6,
-        place: 0,
+    if !has_dimension(plan, dimension) {
+        return Elements::Refused {
+            number: 7,
+            place: 0,
+        };
     }
+    range_of(plan, dimension - 1, slab)
 }
 
-// The slab of an element of a plan in shape.
-fn slab_holding(plan: Plan, dimension: usize, element: u32) -> SlabNumber
-    requires { ⌜ Shaped plan ⌝ }
-    ensures { λ r. ⌜ toldSlab r ≡ slabOfAnswer (layoutOf plan) dimension element ⌝ }
+// The slab of an element along place k.
+fn slab_holding(plan: Plan, k: usize, element: u32) -> SlabNumber
+    requires { ⌜ (Shaped plan) × (k < plan .d) ⌝ }
+    ensures { λ r. ⌜ toldSlab r ≡ slabOfAnswer (layoutOf plan) (k + 1) element ⌝ }
 {
-    if dimension < 1 {
-        return SlabNumber::Refused {
-            number: 7,
-            place: 0,
-        };
-    }
-    if plan.d < dimension {
-        return SlabNumber::Refused {
-            number: 7,
-            place: 0,
-        };
-    }
-    let k = dimension - 1;
     let n = plan.extents[k];
+    let b = plan.cuts[k];
     if n <= element {
         return SlabNumber::Refused {
             number: 8,
             place: 0,
         };
     }
-    SlabNumber::Slab(holding(n, plan.cuts[k], element))
+    SlabNumber::Slab(holding(n, b, element))
 }
 
 // The slab that holds an element of a dimension.
 pub fn slab_of(plan: Plan, dimension: usize, element: u32) -> SlabNumber
     ensures { λ r. ⌜ toldSlab r ≡ slabOfAnswer (layoutOf plan) dimension element ⌝ }
 {
-    if layout::in_shape(plan) {
-        return slab_holding(plan, dimension, element);
+    if !layout::in_shape(plan) {
+        return SlabNumber::Refused {
+            number: 6,
+            place: 0,
+        };
     }
-    SlabNumber::Refused {
-        number: 6,
-        place: 0,
+    if !has_dimension(plan, dimension) {
+        return SlabNumber::Refused {
+            number: 7,
+            place: 0,
+        };
     }
+    slab_holding(plan, dimension - 1, element)
 }

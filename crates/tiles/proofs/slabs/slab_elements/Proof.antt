@@ -1,23 +1,64 @@
 -- `slab_elements` meets its contract.
-use mathlib.Core.Path.{sym, _∙_}
 use borrow.Author.Needs.{needs}
 use Rattle.multipartition.specs.Questions.{slabAnswer}
-use Rattle.layout.proofs.Shaped.{shaped}
+use Rattle.layout.proofs.Shaped.{in-shape-of-shaped}
+use Rattle.tiles.proofs.Numbering.{fails-shape, passes-shape, fails-dimension, passes-dimension}
 use Rattle.tiles.proofs.slabs.slab_elements.Statement.{statement}
 use Rattle.tiles.proofs.slabs.slab_elements.Tie as tie
 
 in-shape-requires : tie.Need-in-shape-requires
 in-shape-requires c κs = search needs
 
-range-of-requires : tie.Need-range-of-requires
-range-of-requires c κs = shaped _ (sym (c .before .in-shape .ensures) ∙ c .if1 .taken)
-
 returns : tie.Need-returns
-returns c = search needs
+unfolding slabAnswer
+returns c =
+    let asked = c .before in
+    rw (fails-shape (asked .before .args .plan) (asked .in-shape .result) (asked .in-shape .ensures) (c .if1 .taken))
+
+has-dimension-requires : tie.Need-has-dimension-requires
+has-dimension-requires c κs = search needs
 
 returns-2 : tie.Need-returns-2
 unfolding slabAnswer
-returns-2 c = rw (sym (c .before .in-shape .ensures) ∙ c .if1 .left)
+returns-2 c =
+    let asked = c .before in
+    let shape = asked .before .before in
+    let s = shape .before in
+    rw (
+      in-shape-of-shaped (s .args .plan) (passes-shape (s .args .plan) (shape .in-shape .result) (shape .in-shape .ensures) (asked .before .if1 .left)),
+      fails-dimension (s .args .plan) (s .args .dimension) (asked .has-dimension .result) (asked .has-dimension .ensures) (c .if2 .taken),
+    )
+
+sub-range-of : tie.Need-sub-range-of
+sub-range-of c =
+    let asked = c .before in
+    let s = asked .before .before .before in
+    passes-dimension (s .args .plan) (s .args .dimension) (asked .has-dimension .result) (asked .has-dimension .ensures) (c .if2 .left) .low
+
+range-of-requires : tie.Need-range-of-requires
+range-of-requires c κs =
+    let asked = c .before in
+    let shape = asked .before .before in
+    let s = shape .before in (
+      passes-shape (s .args .plan) (shape .in-shape .result) (shape .in-shape .ensures) (asked .before .if1 .left),
+      passes-dimension (s .args .plan) (s .args .dimension) (asked .has-dimension .result) (asked .has-dimension .ensures) (c .if2 .left) .below,
+    )
+
+returns-3 : tie.Need-returns-3
+returns-3 c =
+    let asked = c .before .before in
+    let s = asked .before .before .before in
+    let here = passes-dimension (s .args .plan) (s .args .dimension) (asked .has-dimension .result) (asked .has-dimension .ensures) (c .before .if2 .left) in
+    rw (here .back) at (c .range-of .ensures)
 
 pub slab-elements-spec : {M : Type 1} → statement M
-slab-elements-spec = tie.close (tie.spec in-shape-requires range-of-requires returns returns-2)
+slab-elements-spec =
+    tie.close
+    (tie.spec
+    in-shape-requires
+    returns
+    has-dimension-requires
+    returns-2
+    sub-range-of
+    range-of-requires
+    returns-3)

@@ -1,4 +1,4 @@
--- `position_in_shape` meets its contract.
+-- `find` meets its contract.
 use mathlib.Core.Path.{_≡_, _∙_}
 use Prim.Native.Nat.{_-_, _<_, _≤_}
 use native.Mathlib.Omega.{arith}
@@ -14,8 +14,8 @@ use Rattle.layout.proofs.Places.{cuts-length}
 use Rattle.layout.proofs.Shaped.{in-shape-of-shaped}
 use Rattle.tiles.proofs.Coordinates.{length-digits}
 use Rattle.tiles.proofs.Steps.{locates-found}
-use Rattle.tiles.proofs.positions.position_in_shape.Statement.{statement}
-use Rattle.tiles.proofs.positions.position_in_shape.Tie as tie
+use Rattle.tiles.proofs.positions.find.Statement.{statement}
+use Rattle.tiles.proofs.positions.find.Tie as tie
 
 not-found-requires : tie.Need-not-found-requires
 not-found-requires c κs = search needs
@@ -69,8 +69,8 @@ returns-3 c =
     )
     (locates-found (digitsOf cuts (s .args .tile - 1)) (omega (arith, s .pre .d-high)))
 
-pub position-in-shape-spec : {M : Type 1} → statement M
-position-in-shape-spec =
+pub find-spec : {M : Type 1} → statement M
+find-spec =
     tie.close
     (tie.spec
     not-found-requires
