@@ -1,0 +1,86 @@
+-- A plan and its list: the list of a plan is read as that plan.
+use mathlib.Core.Path.{_≡_, refl, sym, ap, _∙_}
+use mathlib.Core.List.{List, _∷_, _++_}
+use Prim.Native.Nat.{ℕ, _+_, _-_, _*_, _/_, _%_, _≤_, _<_}
+use native.Mathlib.Nat.{div-add-mod'}
+use native.Mathlib.Omega.{arith}
+use lib.ListN.{length, getD, take, drop, length-append}
+use lib.Seq.{take-all, take-at, drop-at, drop-drop, getD-take, getD-drop}
+use Rattle.layout.specs.declared.Plan.{Plan}
+use Rattle.solver_link.specs.Link.{planIn, listOfPlan}
+
+-- the lengths of a plan's arrays: every plan by value has them
+pub record Arrays (plan : Plan) : Type 0 where
+  pub extents-length : length (plan .extents) ≡ 5
+  pub weights-length : length (plan .weights) ≡ 5
+  pub cuts-length : length (plan .cuts) ≡ 5
+  pub moduli-length : length (plan .moduli) ≡ 5
+  pub matrix-length : length (plan .matrix) ≡ 25
+
+drop-part : (list part rest : List ℕ) (at n : ℕ) → drop at list ≡ part ++ rest → length part ≡ n → drop (at + n) list ≡ rest
+drop-part list part rest at n e l = sym (drop-drop n at list) ∙ ap (drop n) e ∙ drop-at part rest n l
+
+take-part : (list part rest : List ℕ) (at n : ℕ) → drop at list ≡ part ++ rest → length part ≡ n → take n (drop at list) ≡ part
+take-part list part rest at n e l = ap (take n) e ∙ take-at part rest n l
+
+module _ (plan : Plan) (arrays : Arrays plan) where
+  abbrev from-moduli : List ℕ
+  from-moduli = plan .moduli ++ plan .matrix
+
+  abbrev from-cost : List ℕ
+  from-cost = plan .cost % 4294967296 ∷ plan .cost / 4294967296 ∷ from-moduli
+
+  weights-on : drop 7 (listOfPlan plan) ≡ plan .weights ++ (plan .cuts ++ from-cost)
+  unfolding listOfPlan
+  weights-on = drop-part (listOfPlan plan) (plan .extents) (plan .weights ++ (plan .cuts ++ from-cost)) 2 5 refl (arrays .extents-length)
+
+  cuts-on : drop 12 (listOfPlan plan) ≡ plan .cuts ++ from-cost
+  cuts-on = drop-part (listOfPlan plan) (plan .weights) (plan .cuts ++ from-cost) 7 5 weights-on (arrays .weights-length)
+
+  cost-on : drop 17 (listOfPlan plan) ≡ from-cost
+  cost-on = drop-part (listOfPlan plan) (plan .cuts) from-cost 12 5 cuts-on (arrays .cuts-length)
+
+  moduli-on : drop 19 (listOfPlan plan) ≡ from-moduli
+  moduli-on = sym (drop-drop 2 17 (listOfPlan plan)) ∙ ap (drop 2) cost-on
+
+  matrix-on : drop 24 (listOfPlan plan) ≡ plan .matrix
+  matrix-on = drop-part (listOfPlan plan) (plan .moduli) (plan .matrix) 19 5 moduli-on (arrays .moduli-length)
+
+  pub extents-in : take 5 (drop 2 (listOfPlan plan)) ≡ plan .extents
+  unfolding listOfPlan
+  extents-in = take-part (listOfPlan plan) (plan .extents) (plan .weights ++ (plan .cuts ++ from-cost)) 2 5 refl (arrays .extents-length)
+
+  pub weights-in : take 5 (drop 7 (listOfPlan plan)) ≡ plan .weights
+  weights-in = take-part (listOfPlan plan) (plan .weights) (plan .cuts ++ from-cost) 7 5 weights-on (arrays .weights-length)
+
+  pub cuts-in : take 5 (drop 12 (listOfPlan plan)) ≡ plan .cuts
+  cuts-in = take-part (listOfPlan plan) (plan .cuts) from-cost 12 5 cuts-on (arrays .cuts-length)
+
+  pub moduli-in : take 5 (drop 19 (listOfPlan plan)) ≡ plan .moduli
+  moduli-in = take-part (listOfPlan plan) (plan .moduli) (plan .matrix) 19 5 moduli-on (arrays .moduli-length)
+
+  pub matrix-in : take 25 (drop 24 (listOfPlan plan)) ≡ plan .matrix
+  matrix-in = ap (take 25) matrix-on ∙ take-all 25 (plan .matrix) (omega (arith, arrays .matrix-length))
+
+  pub cost-low-in : getD (listOfPlan plan) 17 0 ≡ plan .cost % 4294967296
+  cost-low-in = sym (getD-drop 17 (listOfPlan plan) 0 0) ∙ ap (λ (l : List ℕ). getD l 0 0) cost-on
+
+  pub cost-high-in : getD (listOfPlan plan) 18 0 ≡ plan .cost / 4294967296
+  cost-high-in = sym (getD-drop 17 (listOfPlan plan) 1 0) ∙ ap (λ (l : List ℕ). getD l 1 0) cost-on
+
+  pub plan-in-list : planIn (listOfPlan plan) ≡ plan
+  unfolding planIn listOfPlan
+  plan-in-list =
+      let whole : plan .cost % 4294967296 + 4294967296 * (plan .cost / 4294967296) ≡ plan .cost = omega (arith, div-add-mod' (plan .cost) 4294967296) in
+      rw (extents-in, weights-in, cuts-in, cost-low-in, cost-high-in, whole, moduli-in, matrix-in)
+
+  pub length-list : length (listOfPlan plan) ≡ 49
+  unfolding listOfPlan
+  length-list = simp length-append (omega (arith, arrays))
+
+-- a number of a part is that of the list
+pub getD-part : (list part : List ℕ) (at n i : ℕ) → take n (drop at list) ≡ part → at ≤ i → i < at + n → getD part (i - at) 0 ≡ getD list i 0
+getD-part list part at n i e low high =
+    let within : i - at < n = omega arith in
+    let sum : at + (i - at) ≡ i = omega arith in
+    rw (← e, getD-take n (drop at list) (i - at) 0 within, getD-drop at list (i - at) 0, sum)
