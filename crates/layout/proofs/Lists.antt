@@ -83,14 +83,18 @@ product-le c xs (suc k) l h =
     rw (← add-one k, product-add-one xs k (omega arith), add-one k, pow-suc)
     (mul-le-mul (product-le c xs k (omega arith) (λ i l. h i (omega arith))) (h k (omega arith)))
 
--- the product of up to five numbers of at most 4,096 fits 64 bits
-pub product-fits : (xs : List ℕ) (d k : ℕ) → Factors d xs → k < d → product (take k xs) * getD xs k 0 < 2 ^ 64
-product-fits xs d k f l =
-    let front : product (take k xs) ≤ 4096 ^ k
-    = product-le 4096 xs k (omega (arith, le-length d xs (f .low))) (λ i m. f .high i (omega arith)) in
-    let four : k ≤ 4 = omega (arith, f .few) in
-    let power : 4096 ^ k ≤ 4096 ^ 4 = pow-le-pow-right (lit< tt) four in
-    lt-of-le-of-lt (mul-le-mul (le-trans front power) (f .high k l)) (lit< tt)
+-- a factor more, of up to five numbers from 1 to 4,096: the product fits 64 bits
+module _ (xs : List ℕ) (d k : ℕ) (f : Factors d xs) (l : k < d) where
+  pub product-next : product (take (k + 1) xs) ≡ product (take k xs) * getD xs k 0
+  product-next = product-add-one xs k (omega (arith, le-length d xs (f .low)))
+
+  pub product-fits : product (take k xs) * getD xs k 0 < 2 ^ 64
+  product-fits =
+      let front : product (take k xs) ≤ 4096 ^ k
+      = product-le 4096 xs k (omega (arith, le-length d xs (f .low))) (λ i m. f .high i (omega arith)) in
+      let four : k ≤ 4 = omega (arith, f .few) in
+      let power : 4096 ^ k ≤ 4096 ^ 4 = pow-le-pow-right (lit< tt) four in
+      lt-of-le-of-lt (mul-le-mul (le-trans front power) (f .high k l)) (lit< tt)
 
 -- numbers from 1 on: the product is at least 1
 pub product-pos : (xs : List ℕ) (n : ℕ) → n ≤ length xs → ((i : ℕ) → i < n → 1 ≤ getD xs i 0) → 1 ≤ product (take n xs)

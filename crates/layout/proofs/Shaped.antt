@@ -3,20 +3,20 @@
 use mathlib.Core.Path.{_≡_, refl, sym, _∙_}
 use mathlib.Core.Bool.{Bool, true, false, not, _&&_}
 use mathlib.Core.List.{List}
-use Prim.Native.Nat.{ℕ, _≤_, _<_}
+use Prim.Native.Nat.{ℕ, _+_, _*_, _^_, _≤_, _<_}
 use native.Mathlib.Nat.{le-trans}
 use native.Mathlib.Omega.{arith}
 use lib.Dec.{leb, ltb, eqb}
 use lib.ListN.{length, getD, take}
 use lib.Seq.{getD-take}
-use borrow.Author.Tests.{not-true, leb-true, ltb-true, eqb-true, le-leb, lt-ltb, eq-eqb}
+use borrow.Author.Tests.{not-true, not-false, leb-true, ltb-true, eqb-true, le-leb, lt-ltb, eq-eqb}
 use Rattle.numbers.specs.Products.{product}
 use Rattle.multipartition.specs.Lists.{allBelow}
 use Rattle.multipartition.specs.Plans.{between, dimensionOk, entryAt, rowOk, inShape}
 use Rattle.layout.specs.declared.Plan.{Plan}
 use Rattle.layout.specs.Plans.{layoutOf, rowsFrom}
-use Rattle.layout.specs.Shaped.{entryOf, rowFits, Factors, Shaped}
-use Rattle.layout.proofs.Lists.{both, le-length, all-at, all-of, factor-le}
+use Rattle.layout.specs.Shaped.{entryOf, rowFits, placeFits, Ranges, Factors, Shaped}
+use Rattle.layout.proofs.Lists.{both, le-length, all-none, all-add-one, all-at, all-of, product-next, product-fits, factor-le}
 use Rattle.layout.proofs.Places.{entry-at}
 
 pub between-true : (low high n : ℕ) → between low high n ≡ true → (low ≤ n) × (n ≤ high)
@@ -69,13 +69,7 @@ row-of d moduli matrix i l h =
 
 -- ---- the plan
 
-pub record Ranges (plan : Plan) : Type 0 where
-  pub d-low : 2 ≤ plan .d
-  pub d-high : plan .d ≤ 5
-  pub p-low : 1 ≤ plan .p
-  pub p-high : plan .p ≤ 4096
-
-pub shaped-of : (plan : Plan) → Ranges plan
+pub shaped-of : (plan : Plan) → Ranges (plan .d) (plan .p)
     → ((k : ℕ) → k < plan .d → Dimension (getD (plan .extents) k 0) (getD (plan .cuts) k 0))
     → ((i : ℕ) → i < plan .d → Modular (plan .d) (plan .moduli) (plan .matrix) i)
     → product (take (plan .d) (plan .cuts)) ≤ 16777216 → product (take (plan .d) (plan .moduli)) ≡ plan .p → Shaped plan
@@ -128,17 +122,24 @@ shaped plan e =
 
 dimension-at : (plan : Plan) → Shaped plan → (k : ℕ) → k < plan .d → Dimension (getD (plan .extents) k 0) (getD (plan .cuts) k 0)
 dimension-at plan s k l =
-    record { extent-low = s .extent-low k l; extent-high = s .extent-high k l; cut-low = s .cut-low k l; cut-fits = s .cut-fits k l; cut-high = s .cut-high k l }
+    record {
+      extent-low = s .extent-low k l;
+      extent-high = s .extent-high k l;
+      cut-low = s .cut-low k l;
+      cut-fits = s .cut-fits k l;
+      cut-high = s .cut-high k l;
+    }
 
-pub dimensions-of-shaped : (plan : Plan) → Shaped plan → allBelow (plan .d) (dimensionOk (plan .extents) (plan .cuts)) ≡ true
-dimensions-of-shaped plan s = all-of (plan .d) _ (λ k l. dimension-of _ _ (dimension-at plan s k l))
-
-pub rows-of-shaped : (plan : Plan) → Shaped plan → allBelow (plan .d) (rowFits (plan .d) (plan .moduli) (plan .matrix)) ≡ true
-rows-of-shaped plan s =
-    all-of (plan .d) _
-    (λ i l.
-    rw (between-of 1 4096 (getD (plan .moduli) i 0) (s .modulus-low i l) (le-trans (s .modulus-high i l) (s .p-high)))
-    (all-of (plan .d) _ (λ j m. lt-ltb _ _ (s .entry-below i j l m))))
+pub place-of-shaped : (plan : Plan) → Shaped plan → (k : ℕ) → k < plan .d
+    → placeFits (plan .d) (plan .extents) (plan .cuts) (plan .moduli) (plan .matrix) k ≡ true
+place-of-shaped plan s k l =
+    let below : allBelow (plan .d) (λ j. ltb (entryOf (plan .matrix) k j) (getD (plan .moduli) k 0)) ≡ true
+    = all-of (plan .d) _ (λ j m. lt-ltb _ _ (s .entry-below k j l m)) in
+    rw (
+      dimension-of (getD (plan .extents) k 0) (getD (plan .cuts) k 0) (dimension-at plan s k l),
+      between-of 1 4096 (getD (plan .moduli) k 0) (s .modulus-low k l) (le-trans (s .modulus-high k l) (s .p-high)),
+    )
+    below
 
 pub in-shape-of-shaped : (plan : Plan) → Shaped plan → inShape (layoutOf plan) ≡ true
 unfolding inShape layoutOf
@@ -153,21 +154,6 @@ in-shape-of-shaped plan s =
     rw
     (between-of 2 5 d (s .d-low) (s .d-high), between-of 1 4096 (plan .p) (s .p-low) (s .p-high), cuts, le-leb _ _ (s .tiles-high), rows)
     (eq-eqb _ _ (s .moduli-product))
-
--- ---- what the two loops show
-
-pub dimensions-true : (d : ℕ) (extents cuts : List ℕ) → allBelow d (dimensionOk extents cuts) ≡ true
-    → (k : ℕ) → k < d → Dimension (getD extents k 0) (getD cuts k 0)
-dimensions-true d extents cuts e k l = dimension-true _ _ (all-at d _ e k l)
-
-pub rows-true : (d : ℕ) (moduli matrix : List ℕ) → allBelow d (rowFits d moduli matrix) ≡ true → (i : ℕ) → i < d → Modular d moduli matrix i
-rows-true d moduli matrix e i l =
-    let m : ℕ = getD moduli i 0 in
-    let t = both (between 1 4096 m) (allBelow d (λ j. ltb (entryOf matrix i j) m)) (all-at d _ e i l) in
-    record {
-      modulus-low = between-true 1 4096 m (t .0) .0;
-      entry-below = λ j h. ltb-true _ _ (all-at d (λ j. ltb (entryOf matrix i j) m) (t .1) j h);
-    }
 
 -- a test that tells whether the plan is shaped tells whether it is in shape
 pub in-shape-if : (plan : Plan) (b : Bool) → (b ≡ true → Shaped plan) → (Shaped plan → b ≡ true) → b ≡ inShape (layoutOf plan)
@@ -186,34 +172,92 @@ pub failed-check : (plan : Plan) (b t : Bool) → b ≡ t → (Shaped plan → t
 failed-check plan b t e h n =
     not-in-shape plan (λ s. let clash : false ≡ true = sym (not-true b n) ∙ e ∙ h s in let z : _≡_ {A = ℕ} 0 1 = cc in omega arith)
 
--- where the loops' checks have passed, the two products decide
-pub record Passed (plan : Plan) : Type 0 where
-  pub ranges : Ranges plan
-  pub dimensions : allBelow (plan .d) (dimensionOk (plan .extents) (plan .cuts)) ≡ true
-  pub rows : allBelow (plan .d) (rowFits (plan .d) (plan .moduli) (plan .matrix)) ≡ true
+-- ---- what the loop over the dimensions shows
 
-pub in-shape-if-products : (plan : Plan) → Passed plan
-    → (leb (product (take (plan .d) (plan .cuts))) 16777216 && eqb (product (take (plan .d) (plan .moduli))) (plan .p)) ≡ inShape (layoutOf plan)
-in-shape-if-products plan h =
-    in-shape-if plan _
+-- the first n dimensions have passed
+module _ (d : ℕ) (extents cuts moduli matrix : List ℕ) (n : ℕ) (h : allBelow n (placeFits d extents cuts moduli matrix) ≡ true) where
+  place : (k : ℕ) → k < n → (dimensionOk extents cuts k ≡ true) × (rowFits d moduli matrix k ≡ true)
+  place k l = both (dimensionOk extents cuts k) (rowFits d moduli matrix k) (all-at n _ h k l)
+
+  row : (i : ℕ) → i < n
+      → (between 1 4096 (getD moduli i 0) ≡ true) × (allBelow d (λ j. ltb (entryOf matrix i j) (getD moduli i 0)) ≡ true)
+  row i l =
+      both (between 1 4096 (getD moduli i 0)) (allBelow d (λ j. ltb (entryOf matrix i j) (getD moduli i 0))) (place i l .1)
+
+  place-dimension : (k : ℕ) → k < n → Dimension (getD extents k 0) (getD cuts k 0)
+  place-dimension k l = dimension-true _ _ (place k l .0)
+
+  place-row : (i : ℕ) → i < n → Modular d moduli matrix i
+  place-row i l =
+      record {
+        modulus-low = between-true 1 4096 (getD moduli i 0) (row i l .0) .0;
+        entry-below = λ j m. ltb-true _ _ (all-at d (λ j. ltb (entryOf matrix i j) (getD moduli i 0)) (row i l .1) j m);
+      }
+
+  cut-factors : n ≤ 5 → Factors n cuts
+  cut-factors few =
+      record { few = few; low = λ k l. place-dimension k l .cut-low; high = λ k l. place-dimension k l .cut-high }
+
+  modulus-factors : n ≤ 5 → Factors n moduli
+  modulus-factors few =
+      record {
+        few = few;
+        low = λ i l. place-row i l .modulus-low;
+        high = λ i l. between-true 1 4096 (getD moduli i 0) (row i l .0) .1;
+      }
+
+-- the loop's state at dimension k: those before have passed, and the products are theirs
+pub record Passed (d : ℕ) (extents cuts moduli matrix : List ℕ) (k tiles processors : ℕ) : Type 0 where
+  pub places : allBelow k (placeFits d extents cuts moduli matrix) ≡ true
+  pub tiles-is : tiles ≡ product (take k cuts)
+  pub processors-is : processors ≡ product (take k moduli)
+
+pub passed-none : (d : ℕ) (extents cuts moduli matrix : List ℕ) → Passed d extents cuts moduli matrix 0 1 1
+passed-none d extents cuts moduli matrix = record { places = all-none _; tiles-is = refl; processors-is = refl }
+
+module _ (d : ℕ) (extents cuts moduli matrix : List ℕ) (k tiles processors : ℕ) (few : d ≤ 5) (l : k < d)
+    (h : Passed d extents cuts moduli matrix k tiles processors) (b : Bool) (e : b ≡ placeFits d extents cuts moduli matrix k) (passes : not b ≡ false) where
+  places-next : allBelow (k + 1) (placeFits d extents cuts moduli matrix) ≡ true
+  places-next = rw (all-add-one k (placeFits d extents cuts moduli matrix), h .places, ← e) (not-false b passes)
+
+  within : k < k + 1
+  within = omega arith
+
+  cuts-so-far : Factors (k + 1) cuts
+  cuts-so-far = cut-factors d extents cuts moduli matrix (k + 1) places-next (omega arith)
+
+  moduli-so-far : Factors (k + 1) moduli
+  moduli-so-far = modulus-factors d extents cuts moduli matrix (k + 1) places-next (omega arith)
+
+  pub tiles-fit : tiles * getD cuts k 0 < 2 ^ 64
+  tiles-fit = rw (h .tiles-is) (product-fits cuts (k + 1) k cuts-so-far within)
+
+  pub processors-fit : processors * getD moduli k 0 < 2 ^ 64
+  processors-fit = rw (h .processors-is) (product-fits moduli (k + 1) k moduli-so-far within)
+
+  pub passed-next : Passed d extents cuts moduli matrix (k + 1) (tiles * getD cuts k 0) (processors * getD moduli k 0)
+  passed-next =
+      record {
+        places = places-next;
+        tiles-is = rw (h .tiles-is) (sym (product-next cuts (k + 1) k cuts-so-far within));
+        processors-is = rw (h .processors-is) (sym (product-next moduli (k + 1) k moduli-so-far within));
+      }
+
+-- where all have passed, the two products decide
+pub passed-all : (plan : Plan) → Ranges (plan .d) (plan .p) → (k tiles processors : ℕ) → plan .d ≤ k → k ≤ plan .d
+    → Passed (plan .d) (plan .extents) (plan .cuts) (plan .moduli) (plan .matrix) k tiles processors
+    → (leb tiles 16777216 && eqb processors (plan .p)) ≡ inShape (layoutOf plan)
+passed-all plan ranges k tiles processors low high h =
+    let all : k ≡ plan .d = omega arith in
+    let places : allBelow (plan .d) (placeFits (plan .d) (plan .extents) (plan .cuts) (plan .moduli) (plan .matrix)) ≡ true = rw all at (h .places) in
+    let tiles-is : tiles ≡ product (take (plan .d) (plan .cuts)) = rw all at (h .tiles-is) in
+    let processors-is : processors ≡ product (take (plan .d) (plan .moduli)) = rw all at (h .processors-is) in
+    in-shape-if plan (leb tiles 16777216 && eqb processors (plan .p))
     (λ e.
-    let t = both (leb (product (take (plan .d) (plan .cuts))) 16777216) (eqb (product (take (plan .d) (plan .moduli))) (plan .p)) e in
-    shaped-of plan (h .ranges) (dimensions-true (plan .d) (plan .extents) (plan .cuts) (h .dimensions)) (rows-true (plan .d) (plan .moduli) (plan .matrix) (h .rows)) (leb-true _ _ (t .0)) (eqb-true _ _ (t .1)))
-    (λ s. rw (le-leb _ _ (s .tiles-high)) (eq-eqb _ _ (s .moduli-product)))
-
-pub cut-factors : (plan : Plan) → Passed plan → Factors (plan .d) (plan .cuts)
-cut-factors plan h =
-    let dimension = dimensions-true (plan .d) (plan .extents) (plan .cuts) (h .dimensions) in
-    record { few = h .ranges .d-high; low = λ k l. dimension k l .cut-low; high = λ k l. dimension k l .cut-high }
-
-pub modulus-factors : (plan : Plan) → Passed plan → Factors (plan .d) (plan .moduli)
-modulus-factors plan h =
-    record {
-      few = h .ranges .d-high;
-      low = λ i l. rows-true (plan .d) (plan .moduli) (plan .matrix) (h .rows) i l .modulus-low;
-      high = λ i l.
-          let m : ℕ = getD (plan .moduli) i 0 in
-          between-true 1 4096 m
-          (both (between 1 4096 m) (allBelow (plan .d) (λ j. ltb (entryOf (plan .matrix) i j) m)) (all-at (plan .d) _ (h .rows) i l) .0)
-          .1;
-    }
+    let t = both (leb tiles 16777216) (eqb processors (plan .p)) e in
+    shaped-of plan ranges
+    (place-dimension (plan .d) (plan .extents) (plan .cuts) (plan .moduli) (plan .matrix) (plan .d) places)
+    (place-row (plan .d) (plan .extents) (plan .cuts) (plan .moduli) (plan .matrix) (plan .d) places)
+    (rw tiles-is at (leb-true tiles 16777216 (t .0)))
+    (sym processors-is ∙ eqb-true _ _ (t .1)))
+    (λ s. rw (le-leb tiles 16777216 (rw (← tiles-is) at (s .tiles-high))) (eq-eqb _ _ (processors-is ∙ s .moduli-product)))

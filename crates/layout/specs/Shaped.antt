@@ -7,7 +7,7 @@ use lib.Dec.{ltb}
 use lib.ListN.{length, getD, take}
 use Rattle.numbers.specs.Products.{product}
 use Rattle.multipartition.specs.Lists.{allBelow}
-use Rattle.multipartition.specs.Plans.{between}
+use Rattle.multipartition.specs.Plans.{between, dimensionOk}
 use Rattle.layout.specs.declared.Plan.{Plan}
 
 -- the entry of row i and column j of a plan's matrix: the rows stand five places apart
@@ -18,11 +18,21 @@ entryOf matrix i j = getD matrix (i * 5 + j) 0
 abbrev pub rowFits : ℕ → List ℕ → List ℕ → ℕ → Bool
 rowFits d moduli matrix i = between 1 4096 (getD moduli i 0) && allBelow d (λ j. ltb (entryOf matrix i j) (getD moduli i 0))
 
+-- extent and cut of dimension k + 1 are in range, and so is row k
+abbrev pub placeFits : ℕ → List ℕ → List ℕ → List ℕ → List ℕ → ℕ → Bool
+placeFits d extents cuts moduli matrix k = dimensionOk extents cuts k && rowFits d moduli matrix k
+
 -- the first d of the numbers, at most five, are from 1 to 4,096
 pub record Factors (d : ℕ) (numbers : List ℕ) : Type 0 where
   pub few : d ≤ 5
   pub low : (k : ℕ) → k < d → 1 ≤ getD numbers k 0
   pub high : (k : ℕ) → k < d → getD numbers k 0 ≤ 4096
+
+pub record Ranges (d p : ℕ) : Type 0 where
+  pub d-low : 2 ≤ d
+  pub d-high : d ≤ 5
+  pub p-low : 1 ≤ p
+  pub p-high : p ≤ 4096
 
 pub record Shaped (plan : Plan) : Type 0 where
   pub d-low : 2 ≤ plan .d

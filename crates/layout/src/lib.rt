@@ -3,12 +3,13 @@ ghost use mathlib.Core.Bool.{_&&_};
 ghost use mathlib.Core.Path.{_≡_};
 ghost use Prim.Native.Nat.{_<_, _≤_};
 ghost use lib.Dec.{leb, ltb};
-ghost use lib.ListN.{take};
+ghost use lib.ListN.{length, take};
 ghost use Rattle.numbers.specs.Products.{product};
 ghost use Rattle.multipartition.specs.Lists.{allBelow};
-ghost use Rattle.multipartition.specs.Plans.{between, dimensionOk, inShape, tilesOf};
+ghost use Rattle.multipartition.specs.Plans.{between, inShape, tilesOf};
 ghost use Rattle.layout.specs.Plans.{layoutOf};
-ghost use Rattle.layout.specs.Shaped.{entryOf, rowFits, Factors, Shaped};
+ghost use Rattle.layout.specs.Shaped.{Ranges, entryOf, placeFits, Factors, Shaped};
+ghost use Rattle.layout.specs.Lent.{planOver, Lent};
 
 // Lists hold dimension k at place k - 1, and row i of the matrix stands at places 5 * (i - 1) on. Places past d are zero in the planner's
 // answer and are never read.
@@ -30,21 +31,9 @@ fn dimension_ok(extent: u32, cut: u32) -> bool
     ((1 <= extent) & (extent <= 1000000)) & ((1 <= cut) & (cut <= extent)) & (cut <= 4096)
 }
 
-// Whether the first d extents and cuts are in range.
-fn dimensions_ok<'a>(d: usize, extents: &'a [u32; 5], cuts: &'a [u32; 5]) -> bool
-    requires { ⌜ d ≤ 5 ⌝ }
-    ensures { λ r. ⌜ r ≡ allBelow d (dimensionOk (now (extents .entry)) (now (cuts .entry))) ⌝ }
-{
-    let mut ok = true;
-    for k in 0..d {
-        ok = ok & dimension_ok(extents[k], cuts[k]);
-    }
-    ok
-}
-
 // Whether the first d entries of row i are below m.
-fn entries_below(d: usize, i: usize, m: u32, matrix: &[u32; 25]) -> bool
-    requires { ⌜ (i < 5) × (d ≤ 5) ⌝ }
+fn entries_below(d: usize, i: usize, m: u32, matrix: &[u32]) -> bool
+    requires { ⌜ (i < 5) × (d ≤ 5) × (length (now matrix) ≡ 25) ⌝ }
     ensures { λ r. ⌜ r ≡ allBelow d (λ j. ltb (entryOf (now (matrix .entry)) i j) m) ⌝ }
 {
     let row = i * 5;
@@ -56,37 +45,58 @@ fn entries_below(d: usize, i: usize, m: u32, matrix: &[u32; 25]) -> bool
     ok
 }
 
-// Whether the first d rows are in order; no modulus above 4,096 multiplies to p with others that are not 0.
-fn rows_ok<'a>(d: usize, moduli: &'a [u32; 5], matrix: &'a [u32; 25]) -> bool
-    requires { ⌜ d ≤ 5 ⌝ }
-    ensures { λ r. ⌜ r ≡ allBelow d (rowFits d (now (moduli .entry)) (now (matrix .entry))) ⌝ }
+// Whether extent, cut, modulus and row of dimension k + 1 are in range. A modulus above 4,096 multiplies to no p with others that are not 0.
+fn place_ok<'a>(
+    d: usize,
+    k: usize,
+    extents: &'a [u32],
+    cuts: &'a [u32],
+    moduli: &'a [u32],
+    matrix: &'a [u32],
+) -> bool
+    requires { ⌜ (k < d) × (d ≤ 5) × (Lent (now extents) (now cuts) (now moduli) (now matrix)) ⌝ }
+    ensures { λ r. ⌜ r ≡ placeFits d (now (extents .entry)) (now (cuts .entry)) (now (moduli .entry)) (now (matrix .entry)) k ⌝ }
 {
-    let mut ok = true;
-    for i in 0..d {
-        let m = moduli[i];
-        ok = ok & (((1 <= m) & (m <= 4096)) & entries_below(d, i, m, matrix));
-    }
-    ok
+    let m = moduli[k];
+    dimension_ok(extents[k], cuts[k]) & (((1 <= m) & (m <= 4096)) & entries_below(d, k, m, matrix))
 }
 
-// The product of the first d numbers, each from 1 to 4,096.
-fn product_of(d: usize, numbers: &[u32; 5]) -> u64
-    requires { ⌜ Factors d (now numbers) ⌝ }
-    ensures { λ r. ⌜ r ≡ product (take d (now (numbers .entry))) ⌝ }
+// Whether every dimension is in range, there are at most 16,777,216 tiles, and the moduli multiply to p.
+fn places_ok<'a>(
+    d: usize,
+    p: u32,
+    extents: &'a [u32],
+    cuts: &'a [u32],
+    moduli: &'a [u32],
+    matrix: &'a [u32],
+) -> bool
+    requires { ⌜ (Ranges d p) × (Lent (now extents) (now cuts) (now moduli) (now matrix)) ⌝ }
+    ensures { λ r. ⌜ r ≡ inShape (layoutOf (planOver d p (now (extents .entry)) (now (cuts .entry)) (now (moduli .entry)) (now (matrix .entry)))) ⌝ }
 {
-    let mut all: u64 = 1;
+    let mut tiles: u64 = 1;
+    let mut processors: u64 = 1;
     for k in 0..d {
-        all = all * (numbers[k] as u64);
+        if !place_ok(d, k, extents, cuts, moduli, matrix) {
+            return false;
+        }
+        tiles = tiles * wide(cuts[k]);
+        processors = processors * wide(moduli[k]);
     }
-    all
+    (tiles <= 16777216) & (processors == wide(p))
 }
 
-// Whether a plan is in shape: refusal 6 is for the others.
-pub fn in_shape(plan: Plan) -> bool
-    ensures { λ r. ⌜ r ≡ inShape (layoutOf plan) ⌝ }
+// Whether the plan of lent lists is in shape.
+pub fn shape_ok<'a>(
+    d: usize,
+    p: u32,
+    extents: &'a [u32],
+    cuts: &'a [u32],
+    moduli: &'a [u32],
+    matrix: &'a [u32],
+) -> bool
+    requires { ⌜ Lent (now extents) (now cuts) (now moduli) (now matrix) ⌝ }
+    ensures { λ r. ⌜ r ≡ inShape (layoutOf (planOver d p (now (extents .entry)) (now (cuts .entry)) (now (moduli .entry)) (now (matrix .entry)))) ⌝ }
 {
-    let d = plan.d;
-    let p = plan.p;
     if d < 2 {
         return false;
     }
@@ -99,13 +109,33 @@ pub fn in_shape(plan: Plan) -> bool
     if 4096 < p {
         return false;
     }
-    if !dimensions_ok(d, &plan.extents, &plan.cuts) {
-        return false;
+    places_ok(d, p, extents, cuts, moduli, matrix)
+}
+
+// Whether a plan is in shape: refusal 6 is for the others.
+pub fn in_shape(plan: Plan) -> bool
+    ensures { λ r. ⌜ r ≡ inShape (layoutOf plan) ⌝ }
+{
+    shape_ok(
+        plan.d,
+        plan.p,
+        &plan.extents,
+        &plan.cuts,
+        &plan.moduli,
+        &plan.matrix,
+    )
+}
+
+// The product of the first d numbers, each from 1 to 4,096.
+fn product_of(d: usize, numbers: &[u32]) -> u64
+    requires { ⌜ (Factors d (now numbers)) × (length (now numbers) ≡ 5) ⌝ }
+    ensures { λ r. ⌜ r ≡ product (take d (now (numbers .entry))) ⌝ }
+{
+    let mut all: u64 = 1;
+    for k in 0..d {
+        all = all * wide(numbers[k]);
     }
-    if !rows_ok(d, &plan.moduli, &plan.matrix) {
-        return false;
-    }
-    (product_of(d, &plan.cuts) <= 16777216) & (product_of(d, &plan.moduli) == (p as u64))
+    all
 }
 
 // The number of tiles of a plan in shape.
@@ -114,4 +144,10 @@ pub fn tile_count(plan: Plan) -> usize
     ensures { λ r. ⌜ r ≡ tilesOf (layoutOf plan) ⌝ }
 {
     product_of(plan.d, &plan.cuts) as usize
+}
+
+fn wide(number: u32) -> u64
+    ensures { λ r. ⌜ r ≡ number ⌝ }
+{
+    number as u64
 }

@@ -28,8 +28,8 @@ add-at c = search needs
 mul-ok : tie.Need-mul-ok Inv-loop μ-loop
 mul-ok c = search needs
 
-element-copy-out-ok : tie.Need-element-copy-out-ok Inv-loop μ-loop
-element-copy-out-ok c = search needs
+shared-slice-read-ok : tie.Need-shared-slice-read-ok Inv-loop μ-loop
+shared-slice-read-ok c = search needs
 
 add-j : tie.Need-add-j Inv-loop μ-loop
 add-j c = search needs
@@ -53,7 +53,7 @@ entries-below-spec =
     loop-holds
     add-at
     mul-ok
-    element-copy-out-ok
+    shared-slice-read-ok
     add-j
     loop-less
     loop-again
