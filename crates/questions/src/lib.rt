@@ -1,4 +1,5 @@
-// Who owns a tile position, and who is the neighbour of a processor.
+// Who owns a tile position, and who is the neighbour of a processor: of a plan by value, or of a plan by its lists, lent, of which nothing is
+// copied.
 use layout::Plan;
 ghost use mathlib.Core.Path.{_≡_};
 ghost use Prim.Native.Nat.{_%_, _*_, _<_, _≤_};
@@ -9,7 +10,7 @@ ghost use Rattle.multipartition.specs.Owners.{times, ownerAt};
 ghost use Rattle.multipartition.specs.Neighbours.{turn, nextOwner};
 ghost use Rattle.multipartition.specs.Questions.{ownerAnswer, neighbourAnswer};
 ghost use Rattle.layout.specs.Plans.{rowsFrom, layoutOf};
-ghost use Rattle.layout.specs.Shaped.{Shaped};
+ghost use Rattle.layout.specs.Lent.{planOver, Lent};
 ghost use Rattle.questions.specs.Bounds.{Reduced, Small};
 ghost use Rattle.questions.specs.Told.{toldOwner, toldNeighbour};
 
@@ -25,8 +26,8 @@ pub enum Neighbour {
 }
 
 // Whether each of d coordinates is below its cut.
-fn below_cuts<'a>(d: usize, cuts: &'a [u32; 5], position: &'a [u32]) -> bool
-    requires { ⌜ (d ≤ 5) × (length (now position) ≡ d) ⌝ }
+fn below_cuts<'a>(d: usize, cuts: &'a [u32], position: &'a [u32]) -> bool
+    requires { ⌜ (d ≤ length (now cuts)) × (length (now position) ≡ d) ⌝ }
     ensures { λ r. ⌜ r ≡ allBelow d (λ k. ltb (getD (now (position .entry)) k 0) (getD (now (cuts .entry)) k 0)) ⌝ }
 {
     let mut ok = true;
@@ -37,8 +38,8 @@ fn below_cuts<'a>(d: usize, cuts: &'a [u32; 5], position: &'a [u32]) -> bool
 }
 
 // Row i times the position.
-fn row_times<'a>(d: usize, i: usize, matrix: &'a [u32; 25], position: &'a [u32]) -> u32
-    requires { ⌜ (i < 5) × (Small d (drop (i * 5) (now matrix))) × (Small d (now position)) × (length (now position) ≡ d) ⌝ }
+fn row_times<'a>(d: usize, i: usize, matrix: &'a [u32], position: &'a [u32]) -> u32
+    requires { ⌜ (i < 5) × (Small d (drop (i * 5) (now matrix))) × (Small d (now position)) × (length (now matrix) ≡ 25) × (length (now position) ≡ d) ⌝ }
     ensures { λ r. ⌜ r ≡ times (take d (drop (i * 5) (now (matrix .entry)))) (now (position .entry)) ⌝ }
 {
     let row = i * 5;
@@ -51,13 +52,8 @@ fn row_times<'a>(d: usize, i: usize, matrix: &'a [u32; 25], position: &'a [u32])
 }
 
 // The owner's number, its coordinates taken one after the other.
-fn owner_number<'a>(
-    d: usize,
-    moduli: &'a [u32; 5],
-    matrix: &'a [u32; 25],
-    position: &'a [u32],
-) -> u32
-    requires { ⌜ (Reduced d (now moduli) (now matrix)) × (Small d (now position)) × (length (now position) ≡ d) ⌝ }
+fn owner_number<'a>(d: usize, moduli: &'a [u32], matrix: &'a [u32], position: &'a [u32]) -> u32
+    requires { ⌜ (Reduced d (now moduli) (now matrix)) × (Small d (now position)) × (length (now matrix) ≡ 25) × (length (now position) ≡ d) ⌝ }
     ensures { λ r. ⌜ r ≡ ownerAt (take d (now (moduli .entry))) (rowsFrom d 0 d (now (matrix .entry))) (now (position .entry)) ⌝ }
 {
     let mut number: u32 = 0;
@@ -68,43 +64,58 @@ fn owner_number<'a>(
     number
 }
 
-// The owner question on a plan in shape.
-fn owner_in_shape(plan: Plan, position: &[u32]) -> Owner
-    requires { ⌜ Shaped plan ⌝ }
-    ensures { λ r. ⌜ toldOwner r ≡ ownerAnswer (layoutOf plan) (now (position .entry)) ⌝ }
+// Who owns a position, of the plan of lent lists.
+pub fn owner_over<'a>(
+    d: usize,
+    p: u32,
+    extents: &'a [u32],
+    cuts: &'a [u32],
+    moduli: &'a [u32],
+    matrix: &'a [u32],
+    position: &'a [u32],
+) -> Owner
+    requires { ⌜ Lent (now extents) (now cuts) (now moduli) (now matrix) ⌝ }
+    ensures { λ r. ⌜ toldOwner r ≡ ownerAnswer (layoutOf (planOver d p (now (extents .entry)) (now (cuts .entry)) (now (moduli .entry)) (now (matrix .entry)))) (now (position .entry)) ⌝ }
 {
-    let d = plan.d;
+    if !layout::shape_ok(d, p, extents, cuts, moduli, matrix) {
+        return Owner::Refused {
+            number: 6,
+            place: 0,
+        };
+    }
     if position.len() != d {
         return Owner::Refused {
             number: 8,
             place: 0,
         };
     }
-    if !below_cuts(d, &plan.cuts, position) {
+    if !below_cuts(d, cuts, position) {
         return Owner::Refused {
             number: 8,
             place: 0,
         };
     }
-    Owner::Processor(owner_number(d, &plan.moduli, &plan.matrix, position))
+    Owner::Processor(owner_number(d, moduli, matrix, position))
 }
 
 // Who owns a position.
 pub fn owner_of(plan: Plan, position: &[u32]) -> Owner
     ensures { λ r. ⌜ toldOwner r ≡ ownerAnswer (layoutOf plan) (now (position .entry)) ⌝ }
 {
-    if layout::in_shape(plan) {
-        return owner_in_shape(plan, position);
-    }
-    Owner::Refused {
-        number: 6,
-        place: 0,
-    }
+    owner_over(
+        plan.d,
+        plan.p,
+        &plan.extents,
+        &plan.cuts,
+        &plan.moduli,
+        &plan.matrix,
+        position,
+    )
 }
 
 // A number below twice m, modulo m.
 fn reduced(m: u32, number: u32) -> u32
-    requires { ⌜ (number < m * 2) ⌝ }
+    requires { ⌜ number < m * 2 ⌝ }
     ensures { λ r. ⌜ r ≡ number % m ⌝ }
 {
     if number < m {
@@ -127,13 +138,13 @@ fn turned(up: bool, m: u32, coordinate: u32, entry: u32) -> u32
 // The neighbour's number: the processor's coordinates from the last to the first, each turned and put at its place.
 fn neighbour_number<'a>(
     d: usize,
-    moduli: &'a [u32; 5],
-    matrix: &'a [u32; 25],
+    moduli: &'a [u32],
+    matrix: &'a [u32],
     k: usize,
     up: bool,
     processor: u32,
 ) -> u32
-    requires { ⌜ (Reduced d (now moduli) (now matrix)) × (k < d) ⌝ }
+    requires { ⌜ (Reduced d (now moduli) (now matrix)) × (length (now matrix) ≡ 25) × (k < d) ⌝ }
     ensures { λ r. ⌜ r ≡ nextOwner (take d (now (moduli .entry))) (rowsFrom d 0 d (now (matrix .entry))) k up processor ⌝ }
 {
     let mut number: u32 = 0;
@@ -151,12 +162,27 @@ fn neighbour_number<'a>(
     number
 }
 
-// The neighbour question on a plan in shape.
-fn neighbour_in_shape(plan: Plan, processor: u32, dimension: usize, up: bool) -> Neighbour
-    requires { ⌜ Shaped plan ⌝ }
-    ensures { λ r. ⌜ toldNeighbour r ≡ neighbourAnswer (layoutOf plan) processor dimension up ⌝ }
+// Who is the neighbour of a processor along a dimension, counted from 1, up or down, of the plan of lent lists.
+pub fn neighbour_over<'a>(
+    d: usize,
+    p: u32,
+    extents: &'a [u32],
+    cuts: &'a [u32],
+    moduli: &'a [u32],
+    matrix: &'a [u32],
+    processor: u32,
+    dimension: usize,
+    up: bool,
+) -> Neighbour
+    requires { ⌜ Lent (now extents) (now cuts) (now moduli) (now matrix) ⌝ }
+    ensures { λ r. ⌜ toldNeighbour r ≡ neighbourAnswer (layoutOf (planOver d p (now (extents .entry)) (now (cuts .entry)) (now (moduli .entry)) (now (matrix .entry)))) processor dimension up ⌝ }
 {
-    let d = plan.d;
+    if !layout::shape_ok(d, p, extents, cuts, moduli, matrix) {
+        return Neighbour::Refused {
+            number: 6,
+            place: 0,
+        };
+    }
     if dimension < 1 {
         return Neighbour::Refused {
             number: 7,
@@ -169,28 +195,32 @@ fn neighbour_in_shape(plan: Plan, processor: u32, dimension: usize, up: bool) ->
             place: 0,
         };
     }
-    if plan.p <= processor {
+    if p <= processor {
         return Neighbour::Refused {
             number: 8,
             place: 0,
         };
     }
     let k = dimension - 1;
-    if plan.cuts[k] == 1 {
+    if cuts[k] == 1 {
         return Neighbour::Nobody;
     }
-    Neighbour::Processor(neighbour_number(d, &plan.moduli, &plan.matrix, k, up, processor))
+    Neighbour::Processor(neighbour_number(d, moduli, matrix, k, up, processor))
 }
 
 // Who is the neighbour of a processor along a dimension, counted from 1, up or down.
 pub fn neighbour_of(plan: Plan, processor: u32, dimension: usize, up: bool) -> Neighbour
     ensures { λ r. ⌜ toldNeighbour r ≡ neighbourAnswer (layoutOf plan) processor dimension up ⌝ }
 {
-    if layout::in_shape(plan) {
-        return neighbour_in_shape(plan, processor, dimension, up);
-    }
-    Neighbour::Refused {
-        number: 6,
-        place: 0,
-    }
+    neighbour_over(
+        plan.d,
+        plan.p,
+        &plan.extents,
+        &plan.cuts,
+        &plan.moduli,
+        &plan.matrix,
+        processor,
+        dimension,
+        up,
+    )
 }

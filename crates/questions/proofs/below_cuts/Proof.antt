@@ -28,8 +28,8 @@ shared-slice-read-ok c = search needs
 mul-ok-2 : tie.Need-mul-ok-2 Inv-loop μ-loop
 mul-ok-2 c = search needs
 
-element-copy-out-ok : tie.Need-element-copy-out-ok Inv-loop μ-loop
-element-copy-out-ok c = search needs
+shared-slice-read-ok-2 : tie.Need-shared-slice-read-ok-2 Inv-loop μ-loop
+shared-slice-read-ok-2 c = search needs
 
 add-k : tie.Need-add-k Inv-loop μ-loop
 add-k c = search needs
@@ -53,7 +53,7 @@ below-cuts-spec =
     mul-ok
     shared-slice-read-ok
     mul-ok-2
-    element-copy-out-ok
+    shared-slice-read-ok-2
     add-k
     loop-less
     loop-again

@@ -17,7 +17,7 @@ abbrev μ-loop : tie.MeasureT-loop
 μ-loop d moduli matrix k up processor number₀ radix₀ rest₀ i₀ number radix rest i = i
 
 loop-holds : tie.Need-loop-holds Inv-loop μ-loop
-loop-holds c = (omega arith, walk-start _ _ _ (c .pre .0) _ _ _)
+loop-holds c = (omega arith, walk-start _ _ _ (c .before .before .pre .0) _ _ _)
 
 sub-i : tie.Need-sub-i Inv-loop μ-loop
 sub-i c = search needs
@@ -25,8 +25,8 @@ sub-i c = search needs
 mul-m : tie.Need-mul-m Inv-loop μ-loop
 mul-m c = search needs
 
-element-copy-out-m : tie.Need-element-copy-out-m Inv-loop μ-loop
-element-copy-out-m c = search needs
+shared-slice-read-m : tie.Need-shared-slice-read-m Inv-loop μ-loop
+shared-slice-read-m c = omega (arith, c .before .before .before .before .before .pre .0 .long)
 
 mul-at : tie.Need-mul-at Inv-loop μ-loop
 mul-at c = search needs
@@ -35,27 +35,27 @@ add-at : tie.Need-add-at Inv-loop μ-loop
 add-at c = search needs
 
 rem-turned : tie.Need-rem-turned Inv-loop μ-loop
-rem-turned c = let s = c .before .before .before in s .pre .0 .modulus-low (c .before .before .loop .i - 1) (omega arith)
+rem-turned c = let s = c .before .before .before .before .before in s .pre .0 .modulus-low (c .before .before .loop .i - 1) (omega arith)
 
 mul-turned : tie.Need-mul-turned Inv-loop μ-loop
 mul-turned c = search needs
 
-element-copy-out-turned : tie.Need-element-copy-out-turned Inv-loop μ-loop
-element-copy-out-turned c = search needs
+shared-slice-read-turned : tie.Need-shared-slice-read-turned Inv-loop μ-loop
+shared-slice-read-turned c = search needs
 
 turned-requires : tie.Need-turned-requires Inv-loop μ-loop
-turned-requires c κs = let s = c .before .before .before .before in
+turned-requires c κs = let s = c .before .before .before .before .before .before in
     let i = c .before .before .before .loop .i - 1 in
     let below : i < s .args .d = omega arith in (
       modulus-high _ _ _ (s .pre .0) i below,
       mod-lt _ (s .pre .0 .modulus-low i below),
-      s .pre .0 .entry-below i _ below (s .pre .1),
+      s .pre .0 .entry-below i _ below (s .pre .2),
     )
 
 -- the walk with the coordinate that the turn puts in front
 abbrev Next : tie.After-turned Inv-loop μ-loop → Type 0
 Next c =
-    let s = c .before .before .before .before .before in
+    let s = c .before .before .before .before .before .before .before in
     let l = c .before .before .before .before .loop in
     let m : ℕ = getD (s .args .moduli .now) (l .i - 1) 0 in
     Walked (s .args .d) (s .args .moduli .now) (s .args .matrix .now) (s .args .k) (s .args .up) (s .args .processor) (l .i - 1)
@@ -65,15 +65,15 @@ Next c =
 
 next : (c : tie.After-turned Inv-loop μ-loop) → Next c
 next c =
-    let s = c .before .before .before .before .before in
-    walk-next _ _ _ (s .pre .0) _ _ _ _ _ _ _ _ (c .before .before .before .before .loop .inv .1) (omega arith) (omega arith) (s .pre .1) (c .turned .ensures)
+    let s = c .before .before .before .before .before .before .before in
+    walk-next _ _ _ (s .pre .0) _ _ _ _ _ _ _ _ (c .before .before .before .before .loop .inv .1) (omega arith) (omega arith) (s .pre .2) (c .turned .ensures)
 
 number-high : (c : tie.After-turned Inv-loop μ-loop) → c .before .before .before .before .loop .number + c .turned .result * c .before .before .before .before .loop .radix < 4096
-number-high c = walk-number-high _ _ _ (c .before .before .before .before .before .pre .0) _ _ _ _ _ _ _ (next c)
+number-high c = walk-number-high _ _ _ (c .before .before .before .before .before .before .before .pre .0) _ _ _ _ _ _ _ (next c)
 
 radix-high : (c : tie.After-turned Inv-loop μ-loop)
-    → c .before .before .before .before .loop .radix * getD (c .before .before .before .before .before .args .moduli .now) (c .before .before .before .before .loop .i - 1) 0 ≤ 4096
-radix-high c = walk-radix-high _ _ _ (c .before .before .before .before .before .pre .0) _ _ _ _ _ _ _ (next c)
+    → c .before .before .before .before .loop .radix * getD (c .before .before .before .before .before .before .before .args .moduli .now) (c .before .before .before .before .loop .i - 1) 0 ≤ 4096
+radix-high c = walk-radix-high _ _ _ (c .before .before .before .before .before .before .before .pre .0) _ _ _ _ _ _ _ (next c)
 
 mul-number : tie.Need-mul-number Inv-loop μ-loop
 mul-number c = record { fits = omega (arith, number-high c) }
@@ -85,7 +85,7 @@ mul-radix : tie.Need-mul-radix Inv-loop μ-loop
 mul-radix c = record { fits = omega (arith, radix-high c) }
 
 div-rest : tie.Need-div-rest Inv-loop μ-loop
-div-rest c = let s = c .before .before .before .before .before in s .pre .0 .modulus-low (c .before .before .before .before .loop .i - 1) (omega arith)
+div-rest c = let s = c .before .before .before .before .before .before .before in s .pre .0 .modulus-low (c .before .before .before .before .loop .i - 1) (omega arith)
 
 loop-less : tie.Need-loop-less Inv-loop μ-loop
 loop-less c = search needs
@@ -94,7 +94,7 @@ loop-again : tie.Need-loop-again Inv-loop μ-loop
 loop-again c = (omega arith, next c)
 
 returns : tie.Need-returns Inv-loop μ-loop
-returns c = walk-end _ _ _ (c .before .before .pre .0) _ _ _ _ _ _ _ (c .before .loop .inv .1) (omega arith)
+returns c = walk-end _ _ _ (c .before .before .before .before .pre .0) _ _ _ _ _ _ _ (c .before .loop .inv .1) (omega arith)
 
 pub neighbour-number-spec : {M : Type 1} → statement M
 neighbour-number-spec =
@@ -105,12 +105,12 @@ neighbour-number-spec =
     loop-holds
     sub-i
     mul-m
-    element-copy-out-m
+    shared-slice-read-m
     mul-at
     add-at
     rem-turned
     mul-turned
-    element-copy-out-turned
+    shared-slice-read-turned
     turned-requires
     mul-number
     add-number

@@ -17,42 +17,47 @@ abbrev μ-loop : tie.MeasureT-loop
 μ-loop d moduli matrix position number₀ i₀ number i = d - i
 
 loop-holds : tie.Need-loop-holds Inv-loop μ-loop
-loop-holds c = (omega arith, sym (owner-front-none _ _ _ _ (c .before .pre .0)))
+loop-holds c = (omega arith, sym (owner-front-none _ _ _ _ (c .before .before .before .pre .0)))
 
 mul-m : tie.Need-mul-m Inv-loop μ-loop
 mul-m c = search needs
 
-element-copy-out-m : tie.Need-element-copy-out-m Inv-loop μ-loop
-element-copy-out-m c = search needs
+shared-slice-read-m : tie.Need-shared-slice-read-m Inv-loop μ-loop
+shared-slice-read-m c = omega (arith, c .before .before .before .before .before .before .pre .0 .long)
 
 mul-number : tie.Need-mul-number Inv-loop μ-loop
-mul-number c = let s = c .before .before .before .before in
+mul-number c = let s = c .before .before .before .before .before .before in
     let l = c .before .before .loop in
     omega (arith, owner-front-room _ _ _ (s .args .position .now) (s .pre .0) (l .i) (l .number) (omega arith) (l .inv .1))
 
 row-times-requires : tie.Need-row-times-requires Inv-loop μ-loop
-row-times-requires c κs = let s = c .before .before .before .before in
-    (omega (arith, s .pre .0 .few), small-row _ _ _ (s .pre .0) (c .before .before .loop .i) (omega arith), s .pre .1, s .pre .2)
+row-times-requires c κs = let s = c .before .before .before .before .before .before in (
+  omega (arith, s .pre .0 .few),
+  small-row _ _ _ (s .pre .0) (c .before .before .loop .i) (omega arith),
+  s .pre .1,
+  s .pre .2,
+  s .pre .3,
+)
 
 rem-number : tie.Need-rem-number Inv-loop μ-loop
-rem-number c = let s = c .before .before .before .before .before in s .pre .0 .modulus-low (c .before .before .before .loop .i) (omega arith)
+rem-number c = let s = c .before .before .before .before .before .before .before in s .pre .0 .modulus-low (c .before .before .before .loop .i) (omega arith)
 
 -- the number with the coordinate that this turn adds
 abbrev Next : tie.After-row-times Inv-loop μ-loop → Type 0
 Next c =
-    let s = c .before .before .before .before .before in
+    let s = c .before .before .before .before .before .before .before in
     let l = c .before .before .before .loop in
     let m : ℕ = getD (s .args .moduli .now) (l .i) 0 in
     l .number * m + c .row-times .result % m ≡ ownerFront (s .args .d) (s .args .moduli .now) (s .args .matrix .now) (s .args .position .now) (l .i + 1)
 
 next : (c : tie.After-row-times Inv-loop μ-loop) → Next c
 next c =
-    let s = c .before .before .before .before .before in
+    let s = c .before .before .before .before .before .before .before in
     let l = c .before .before .before .loop in
     owner-front-next _ _ _ _ (s .pre .0) (l .i) (l .number) (c .row-times .result) (omega arith) (l .inv .1) (c .row-times .ensures)
 
 add-number : tie.Need-add-number Inv-loop μ-loop
-add-number c = let s = c .before .before .before .before .before in
+add-number c = let s = c .before .before .before .before .before .before .before in
     let l = c .before .before .before .loop in
     record {
       fits = rw (next c) (omega (arith, owner-front-high _ _ _ (s .args .position .now) (s .pre .0) (l .i + 1) (omega arith)));
@@ -68,7 +73,7 @@ loop-again : tie.Need-loop-again Inv-loop μ-loop
 loop-again c = (omega arith, next c)
 
 returns : tie.Need-returns Inv-loop μ-loop
-returns c = owner-front-all _ _ _ _ (c .before .before .before .pre .0) _ _ (omega arith) (omega arith) (c .before .loop .inv .1)
+returns c = owner-front-all _ _ _ _ (c .before .before .before .before .before .pre .0) _ _ (omega arith) (omega arith) (c .before .loop .inv .1)
 
 pub owner-number-spec : {M : Type 1} → statement M
 owner-number-spec =
@@ -78,7 +83,7 @@ owner-number-spec =
     μ-loop
     loop-holds
     mul-m
-    element-copy-out-m
+    shared-slice-read-m
     mul-number
     row-times-requires
     rem-number
