@@ -135,8 +135,9 @@ fn turned(up: bool, m: u32, coordinate: u32, entry: u32) -> u32
     reduced(m, coordinate + (m - entry))
 }
 
-// The neighbour's number: the processor's coordinates from the last to the first, each turned and put at its place.
-fn neighbour_number<'a>(
+// The neighbour's number: the processor's coordinates from the last to the first, each turned and put at its place. The printer asks it of
+// every processor of a plan whose shape it has checked once.
+pub fn neighbour_number<'a>(
     d: usize,
     moduli: &'a [u32],
     matrix: &'a [u32],
