@@ -1,0 +1,29 @@
+-- Document 01's example: what is printed for its job is, byte for byte, what the paper shows.
+use mathlib.Core.Path.{_≡_, refl}
+use mathlib.Core.List.{[], _∷_, _++_}
+use Rattle.numerals.specs.Words.{bytesOf}
+use Rattle.numerals.specs.Decimal.{decimal, decimalWithin}
+use Rattle.numbers.specs.Gcd.{gcd}
+use Rattle.numbers.specs.Sums.{same}
+use Rattle.multipartition.specs.Lists.{allBelow, listOf, startingWith, those}
+use Rattle.multipartition.specs.Cuts.{isEven, fitting, notLater, precedes, preferred, chosen, cheapest}
+use Rattle.multipartition.specs.Moduli.{moduliOf}
+use Rattle.multipartition.specs.Matrix.{remainder, finish, finishedRows, rowsOf, remaindersOf, matrixOf}
+use Rattle.multipartition.specs.MixedRadix.{numberFrom, digitsOf}
+use Rattle.multipartition.specs.Neighbours.{columnOf, turn, turned, nextOwner, neighbourAt}
+use Rattle.multipartition.specs.Jobs.{firstOutside, planWith, planAnswer}
+use Rattle.plan_text.specs.PlanText.{joined, processors, upLine, planText, answerText}
+
+pub example-printed : answerText (planAnswer 4 3 (8 ∷ 8 ∷ 8 ∷ []) (1 ∷ 1 ∷ 1 ∷ []))
+    ≡ bytesOf "plan 4 3\n"
+    ++ bytesOf "cuts 2 2 2\n"
+    ++ bytesOf "cost 6\n"
+    ++ bytesOf "mod 1 2 2\n"
+    ++ bytesOf "row 0 0 0\n"
+    ++ bytesOf "row 1 1 0\n"
+    ++ bytesOf "row 0 1 1\n"
+    ++ bytesOf "up 1 2 3 0 1\n"
+    ++ bytesOf "up 2 3 2 1 0\n"
+    ++ bytesOf "up 3 1 0 3 2\n"
+unfolding decimal decimalWithin gcd same allBelow listOf startingWith those isEven fitting notLater precedes preferred chosen cheapest moduliOf remainder finish finishedRows rowsOf remaindersOf matrixOf numberFrom digitsOf columnOf turn turned nextOwner neighbourAt firstOutside planWith planAnswer joined processors upLine planText answerText
+example-printed = refl
