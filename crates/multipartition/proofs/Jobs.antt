@@ -20,11 +20,12 @@ use Rattle.multipartition.proofs.Plans.{between-true-iff, layout-in-sha
 
 -- ---- the checks
 
-Extent : ℕ → Type 0
+-- "Extent: 1 to 1,000,000."
+unfoldable pub Extent : ℕ → Type 0
 Extent n = (1 ≤ n) × (n ≤ 1000000)
 
 -- no extent is out of range, if the first such dimension is 0
-extents-of-firstOutside : (i : ℕ) (extents : List ℕ) → firstOutside (suc i) extents ≡ 0 → (k : ℕ) → k < length extents → Extent (getD extents k 0)
+pub extents-of-firstOutside : (i : ℕ) (extents : List ℕ) → firstOutside (suc i) extents ≡ 0 → (k : ℕ) → k < length extents → Extent (getD extents k 0)
 unfolding firstOutside Extent
 extents-of-firstOutside i [] e k l = absurd (not-suc-le-zero l)
 extents-of-firstOutside i (n ∷ extents) e k l = go (between 1 1000000 n) refl e (extents-of-firstOutside (suc i) extents) k l
@@ -53,7 +54,7 @@ passed-check : (fails : Bool) (number place : ℕ) (later : Answer Layout) (plan
 passed-check true number place later plan e = let clash : _≡_ {A = ℕ} 0 1 = cc in absurd (omega arith)
 passed-check false number place later plan e = (refl, e)
 
-or-false : (s t : Bool) → s || t ≡ false → (s ≡ false) × (t ≡ false)
+pub or-false : (s t : Bool) → s || t ≡ false → (s ≡ false) × (t ≡ false)
 or-false true t e = let clash : _≡_ {A = ℕ} 0 1 = cc in absurd (omega arith)
 or-false false t e = (refl, e)
 
