@@ -2,29 +2,26 @@
 // place in the upper 32 bits.
 mod lists; // lists.rt: plans and answers as lists
 
-use lists::joined;
-use lists::plan_in;
-use lists::put_one;
-use lists::put_two;
 use questions::Neighbour;
 use questions::Owner;
-use questions::neighbour_of;
-use questions::owner_of;
+use tiles::slabs;
+use tiles::slabs::Elements;
+use tiles::slabs::SlabNumber;
 ghost use lib.ListN.{length};
-ghost use Rattle.solver_link.specs.Link.{ownerLink, neighbourLink, Linked};
+ghost use Rattle.solver_link.specs.Link.{ownerLink, neighbourLink, slabLink, slabOfLink, Linked};
 
 // Who owns a position: the answer list gets the processor.
 #[no_mangle]
 pub extern "C" fn multipartition_owner(plan: &[u32], position: &[u32], answer: &mut [u32]) -> u64
     ensures { λ r. ⌜ Linked (ownerLink (now (plan .entry)) (now (position .entry)) (length (now (answer .entry)))) (now (answer .entry)) r (now (answer .exit)) ⌝ }
 {
-    if plan.len() != 49 {
+    if plan.len() != lists::PLAN_LENGTH {
         return 6;
     }
-    let owner = owner_of(plan_in(plan), position);
+    let owner = questions::owner_of(lists::plan_in(plan), position);
     match owner {
-        Owner::Processor(q) => put_one(answer, q),
-        Owner::Refused { number, place } => joined(number, place),
+        Owner::Processor(q) => lists::put_one(answer, q),
+        Owner::Refused { number, place } => lists::joined(number, place),
     }
 }
 
@@ -39,13 +36,58 @@ pub extern "C" fn multipartition_neighbour(
 ) -> u64
     ensures { λ r. ⌜ Linked (neighbourLink (now (plan .entry)) processor dimension up (length (now (answer .entry)))) (now (answer .entry)) r (now (answer .exit)) ⌝ }
 {
-    if plan.len() != 49 {
+    if plan.len() != lists::PLAN_LENGTH {
         return 6;
     }
-    let neighbour = neighbour_of(plan_in(plan), processor, dimension as usize, up != 0);
+    let neighbour = questions::neighbour_of(
+        lists::plan_in(plan),
+        processor,
+        dimension as usize,
+        up != 0,
+    );
     match neighbour {
-        Neighbour::Processor(q) => put_two(answer, 1, q),
-        Neighbour::Nobody => put_two(answer, 0, 0),
-        Neighbour::Refused { number, place } => joined(number, place),
+        Neighbour::Processor(q) => lists::put_two(answer, 1, q),
+        Neighbour::Nobody => lists::put_two(answer, 0, 0),
+        Neighbour::Refused { number, place } => lists::joined(number, place),
+    }
+}
+
+// Which elements a slab holds: the answer list gets the first and the one after the last.
+#[no_mangle]
+pub extern "C" fn multipartition_slab(
+    plan: &[u32],
+    dimension: u32,
+    slab: u32,
+    answer: &mut [u32],
+) -> u64
+    ensures { λ r. ⌜ Linked (slabLink (now (plan .entry)) dimension slab (length (now (answer .entry)))) (now (answer .entry)) r (now (answer .exit)) ⌝ }
+{
+    if plan.len() != lists::PLAN_LENGTH {
+        return 6;
+    }
+    let elements = slabs::slab_elements(lists::plan_in(plan), dimension as usize, slab);
+    match elements {
+        Elements::Range { first, after } => lists::put_two(answer, first, after),
+        Elements::Refused { number, place } => lists::joined(number, place),
+    }
+}
+
+// Which slab holds an element: the answer list gets the slab.
+#[no_mangle]
+pub extern "C" fn multipartition_slab_of(
+    plan: &[u32],
+    dimension: u32,
+    element: u32,
+    answer: &mut [u32],
+) -> u64
+    ensures { λ r. ⌜ Linked (slabOfLink (now (plan .entry)) dimension element (length (now (answer .entry)))) (now (answer .entry)) r (now (answer .exit)) ⌝ }
+{
+    if plan.len() != lists::PLAN_LENGTH {
+        return 6;
+    }
+    let slab = slabs::slab_of(lists::plan_in(plan), dimension as usize, element);
+    match slab {
+        SlabNumber::Slab(s) => lists::put_one(answer, s),
+        SlabNumber::Refused { number, place } => lists::joined(number, place),
     }
 }

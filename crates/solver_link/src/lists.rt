@@ -6,6 +6,9 @@ ghost use Prim.Native.Nat.{_+_, _*_, _≤_, _<_};
 ghost use lib.ListN.{length, getD, take, drop};
 ghost use Rattle.solver_link.specs.Link.{planIn, listOfPlan, into, Linked};
 
+// How many places a plan list has.
+pub const PLAN_LENGTH: usize = 49;
+
 // Five numbers of a plan list.
 fn five(list: &[u32], at: usize) -> [u32; 5]
     requires { ⌜ at + 5 ≤ length (now list) ⌝ }
@@ -64,18 +67,18 @@ pub fn plan_in(list: &[u32]) -> Plan
     }
 }
 
-// One number into an answer list.
-pub fn put_one(answer: &mut [u32], a: u32) -> u64
-    ensures { λ r. ⌜ Linked (into (length (now (answer .entry))) (a ∷ [])) (now (answer .entry)) r (now (answer .exit)) ⌝ }
+// One number into an answer list; 9 if the list has another length.
+pub fn put_one(answer: &mut [u32], number: u32) -> u64
+    ensures { λ r. ⌜ Linked (into (length (now (answer .entry))) (number ∷ [])) (now (answer .entry)) r (now (answer .exit)) ⌝ }
 {
     if answer.len() != 1 {
         return 9;
     }
-    answer[0] = a;
+    answer[0] = number;
     0
 }
 
-// Two numbers into an answer list.
+// Two numbers into an answer list, likewise.
 pub fn put_two(answer: &mut [u32], a: u32, b: u32) -> u64
     ensures { λ r. ⌜ Linked (into (length (now (answer .entry))) (a ∷ b ∷ [])) (now (answer .entry)) r (now (answer .exit)) ⌝ }
 {
@@ -119,15 +122,15 @@ fn number_at(plan: Plan, i: usize) -> u32
     plan.matrix[i - 24]
 }
 
-// A plan into an answer list.
+// A plan into an answer list, likewise. A planned d fits 32 bits.
 pub fn put_plan(list: &mut [u32], plan: Plan) -> u64
     requires { ⌜ plan .d ≤ 5 ⌝ }
     ensures { λ r. ⌜ Linked (into (length (now (list .entry))) (listOfPlan plan)) (now (list .entry)) r (now (list .exit)) ⌝ }
 {
-    if list.len() != 49 {
+    if list.len() != PLAN_LENGTH {
         return 9;
     }
-    for i in 0..49 {
+    for i in 0..PLAN_LENGTH {
         list[i] = number_at(plan, i);
     }
     0

@@ -7,7 +7,7 @@ use Rattle.solver_link.proofs.lists.put_one.Statement.{statement}
 use Rattle.solver_link.proofs.lists.put_one.Tie as tie
 
 returns : tie.Need-returns
-returns c = linked-length (c .before .args .answer .now) (c .before .args .a ∷ []) (c .if1 .taken)
+returns c = linked-length (c .before .args .answer .now) (c .before .args .number ∷ []) (c .if1 .taken)
 
 slice-write-answer : tie.Need-slice-write-answer
 slice-write-answer c = search needs
