@@ -1,0 +1,78 @@
+-- The lines 1 to 4 of the table, one after the other, by the tests of the code.
+use mathlib.Core.Path.{_≡_, sym, _∙_}
+use mathlib.Core.Bool.{Bool, true, false, not, _&&_, _||_}
+use mathlib.Core.List.{List}
+use Prim.Native.Nat.{ℕ, _≤_, _<_}
+use native.Mathlib.Decide.{decLe}
+use native.Mathlib.Omega.{arith}
+use borrow.Author.Tests.{lt-ltb, le-ltb, le-leb, lt-leb, ne-eqb, eqb-true, ltb-false, not-false}
+use lib.Dec.{leb, ltb, eqb}
+use lib.ListN.{length}
+use Rattle.multipartition.specs.Answers.{refused}
+use Rattle.multipartition.specs.Plans.{between}
+use Rattle.multipartition.specs.Jobs.{Passed, firstOutside, planAnswer}
+use Rattle.multipartition.proofs.Jobs.{Extent, extents-of-firstOutside, or-false}
+
+-- out of a range
+abbrev pub outsideRange : ℕ → ℕ → ℕ → Bool
+outsideRange low high n = ltb n low || ltb high n
+
+outside-range : (low high n : ℕ) → outsideRange low high n ≡ not (between low high n)
+outside-range low high n = go (decLe low n) (decLe n high)
+  where
+    go : Dec (low ≤ n) → Dec (n ≤ high) → outsideRange low high n ≡ not (leb low n && leb n high)
+    go (yes a) (yes b) = rw (le-ltb n low a, le-ltb high n b, le-leb low n a, le-leb n high b)
+    go (yes a) (no b) =
+        let m : high < n = omega arith in
+        rw (le-ltb n low a, lt-ltb high n m, le-leb low n a, lt-leb n high m)
+    go (no a) b = let m : n < low = omega arith in rw (lt-ltb n low m, lt-leb low n m)
+
+-- a number that is not out of a range
+pub within : (low high n : ℕ) → outsideRange low high n ≡ false → (low ≤ n) × (n ≤ high)
+within low high n e =
+    let both = or-false (ltb n low) (ltb high n) e in
+    (ltb-false n low (both .0), ltb-false high n (both .1))
+
+-- two lists of d numbers
+abbrev pub otherLengths : ℕ → List ℕ → List ℕ → Bool
+otherLengths d extents weights = not (eqb (length extents) d) || not (eqb (length weights) d)
+
+pub lengths : (d : ℕ) (extents weights : List ℕ) → otherLengths d extents weights ≡ false → (length extents ≡ d) × (length weights ≡ d)
+lengths d extents weights e =
+    let both = or-false (not (eqb (length extents) d)) (not (eqb (length weights) d)) e in
+    (eqb-true (length extents) d (not-false (eqb (length extents) d) (both .0)), eqb-true (length weights) d (not-false (eqb (length weights) d) (both .1)))
+
+module _ (p d : ℕ) (extents weights : List ℕ) where
+  pub refused-1 : outsideRange 2 5 d ≡ true → planAnswer p d extents weights ≡ refused 1 0
+  unfolding planAnswer
+  refused-1 e = rw (sym (outside-range 2 5 d) ∙ e)
+
+  module _ (d-in : outsideRange 2 5 d ≡ false) where
+    pub refused-2 : outsideRange 1 4096 p ≡ true → planAnswer p d extents weights ≡ refused 2 0
+    unfolding planAnswer
+    refused-2 e = rw (sym (outside-range 2 5 d) ∙ d-in, sym (outside-range 1 4096 p) ∙ e)
+
+    module _ (p-in : outsideRange 1 4096 p ≡ false) where
+      pub refused-3 : otherLengths d extents weights ≡ true → planAnswer p d extents weights ≡ refused 3 0
+      unfolding planAnswer
+      refused-3 e = rw (sym (outside-range 2 5 d) ∙ d-in, sym (outside-range 1 4096 p) ∙ p-in, e)
+
+      module _ (many : otherLengths d extents weights ≡ false) where
+        pub refused-4 : (firstOutside 1 extents ≡ 0 → ⊥) → planAnswer p d extents weights ≡ refused 4 (firstOutside 1 extents)
+        unfolding planAnswer
+        refused-4 e = rw (sym (outside-range 2 5 d) ∙ d-in, sym (outside-range 1 4096 p) ∙ p-in, many, ne-eqb (firstOutside 1 extents) 0 e)
+
+        pub passed : firstOutside 1 extents ≡ 0 → Passed p d extents weights
+        unfolding Extent
+        passed e = record {
+          range = record {
+            p-low = within 1 4096 p p-in .0;
+            p-high = within 1 4096 p p-in .1;
+            d-low = omega (arith, within 2 5 d d-in .0, lengths d extents weights many .0);
+            d-high = omega (arith, within 2 5 d d-in .1, lengths d extents weights many .0);
+            extent-low = λ k l. extents-of-firstOutside 0 extents e k l .0;
+            extent-high = λ k l. extents-of-firstOutside 0 extents e k l .1;
+          };
+          extents-many = lengths d extents weights many .0;
+          weights-many = lengths d extents weights many .1;
+        }

@@ -1,0 +1,136 @@
+// Planning: the answer to a job is a plan or a refusal.
+use cuts::cheapest_cuts;
+use layout::Plan;
+use matrix::matrix_of;
+use matrix::moduli_of;
+ghost use mathlib.Core.Path.{_≡_};
+ghost use Prim.Native.Nat.{_≤_};
+ghost use lib.ListN.{length, take};
+ghost use Rattle.multipartition.specs.Answers.{refused as refusal};
+ghost use Rattle.multipartition.specs.Cuts.{costOf, cheapest};
+ghost use Rattle.multipartition.specs.Plans.{between, layoutWith};
+ghost use Rattle.multipartition.specs.Jobs.{firstOutside, planWith, planAnswer};
+ghost use Rattle.layout.specs.Plans.{five, planOf};
+ghost use Rattle.planner.specs.Planned.{plannedOf};
+ghost use Rattle.cuts.specs.Found.{Job};
+
+// A plan, with number and place zero; or a refusal's number and place, with a plan of zeros.
+pub struct Planned {
+    pub number: u32,
+    pub place: u32,
+    pub plan: Plan,
+}
+
+// A refusal, all else zero.
+fn refused(number: u32, place: u32) -> Planned
+    ensures { λ r. ⌜ r ≡ plannedOf (refusal number place) ⌝ }
+{
+    Planned {
+        number: number,
+        place: place,
+        plan: Plan {
+            d: 0,
+            p: 0,
+            extents: [0; 5],
+            weights: [0; 5],
+            cuts: [0; 5],
+            cost: 0,
+            moduli: [0; 5],
+            matrix: [0; 25],
+        },
+    }
+}
+
+// At most five numbers, with zeros after them.
+fn padded(numbers: &[u32]) -> [u32; 5]
+    requires { ⌜ length (now numbers) ≤ 5 ⌝ }
+    ensures { λ r. ⌜ r ≡ five (now (numbers .entry)) ⌝ }
+{
+    let mut places: [u32; 5] = [0; 5];
+    for k in 0..numbers.len() {
+        places[k] = numbers[k];
+    }
+    places
+}
+
+// Whether an extent is in range.
+fn in_range(extent: u32) -> bool
+    ensures { λ r. ⌜ r ≡ between 1 1000000 extent ⌝ }
+{
+    (1 <= extent) & (extent <= 1000000)
+}
+
+// The first dimension, counted from 1, whose extent is out of range; 0 if there is none.
+fn first_outside(extents: &[u32]) -> u32
+    requires { ⌜ length (now extents) ≤ 5 ⌝ }
+    ensures { λ r. ⌜ r ≡ firstOutside 1 (now (extents .entry)) ⌝ }
+{
+    let mut place: u32 = 0;
+    for k in 0..extents.len() {
+        place = place + 1;
+        if !in_range(extents[k]) {
+            return place;
+        }
+    }
+    0
+}
+
+// The plan with the cuts chosen.
+fn plan_with(p: u32, extents: &[u32], weights: &[u32], cuts: [u32; 5], cost: u64) -> Plan
+    requires { ⌜ (1 ≤ p) × (p ≤ 4096) × (length (now extents) ≤ 5) × (length (now weights) ≤ 5) ⌝ }
+    requires { ⌜ (cuts ≡ five (take (length (now extents)) cuts)) × (cost ≡ costOf (now weights) (take (length (now extents)) cuts)) ⌝ }
+    ensures { λ r. ⌜ r ≡ planOf (layoutWith p (now (extents .entry)) (now (weights .entry)) (take (length (now (extents .entry))) cuts)) ⌝ }
+{
+    let d = extents.len();
+    let kept_extents = padded(extents);
+    let kept_weights = padded(weights);
+    let moduli = moduli_of(p, cuts, d);
+    let matrix = matrix_of(p, cuts, moduli, d);
+    Plan {
+        d: d,
+        p: p,
+        extents: kept_extents,
+        weights: kept_weights,
+        cuts: cuts,
+        cost: cost,
+        moduli: moduli,
+        matrix: matrix,
+    }
+}
+
+// The answer to a job that passes the lines 1 to 4 of the table.
+fn answer(p: u32, extents: &[u32], weights: &[u32]) -> Planned
+    requires { ⌜ Job p (now extents) (now weights) ⌝ }
+    ensures { λ r. ⌜ r ≡ plannedOf (planWith p (now (extents .entry)) (now (weights .entry)) (cheapest p (now (extents .entry)) (now (weights .entry)))) ⌝ }
+{
+    let found = cheapest_cuts(p, extents, weights);
+    if !found.ok {
+        return refused(5, 0);
+    }
+    let cuts = found.cuts;
+    Planned {
+        number: 0,
+        place: 0,
+        plan: plan_with(p, extents, weights, cuts, found.cost),
+    }
+}
+
+// The planner's answer to a job.
+pub fn plan_job(p: u32, d: usize, extents: &[u32], weights: &[u32]) -> Planned
+    ensures { λ r. ⌜ r ≡ plannedOf (planAnswer p d (now (extents .entry)) (now (weights .entry))) ⌝ }
+{
+    if (d < 2) | (5 < d) {
+        return refused(1, 0);
+    }
+    if (p < 1) | (4096 < p) {
+        return refused(2, 0);
+    }
+    if (extents.len() != d) | (weights.len() != d) {
+        return refused(3, 0);
+    }
+    let outside = first_outside(extents);
+    if outside != 0 {
+        return refused(4, outside);
+    }
+    answer(p, extents, weights)
+}
