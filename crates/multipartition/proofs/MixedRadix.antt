@@ -2,10 +2,11 @@
 -- are the same question for the later bases.
 use mathlib.Core.Path.{_≡_, refl, sym, ap, ap₂, _∙_, subst⁻¹}
 use mathlib.Core.List.{List, [], _∷_}
-use Prim.Native.Nat.{ℕ, zero, _+_, _*_, _/_, _%_, _<_}
+use Prim.Native.Nat.{ℕ, zero, suc, _+_, _*_, _/_, _%_, _<_}
 use native.Mathlib.Nat.{zero-lt-suc, mul-pos, mod-lt, mod-one, mod-eq-of-lt, mul-add-div-right, mul-add-mod-self-right}
 use native.Mathlib.Omega.{arith}
 use lib.Arith.{digits-lt, digits-div, mod-mul}
+use lib.ListN.{length, getD, set, drop}
 use Rattle.numbers.specs.Products.{product}
 use Rattle.multipartition.specs.Lists.{first, rest}
 use Rattle.multipartition.specs.MixedRadix.{numberFrom, digitsOf}
@@ -20,6 +21,16 @@ pub product-positive : (bases : List ℕ) → Positive bases → zero < product 
 unfolding Positive
 product-positive [] h = zero-lt-suc 0
 product-positive (b ∷ bases) h = mul-pos (h .0) (product-positive bases (h .1))
+
+-- ---- the first number of a list and the others, by places
+
+pub first-at : (xs : List ℕ) → first xs ≡ getD xs 0 0
+first-at [] = refl
+first-at (x ∷ xs) = refl
+
+pub rest-at : (xs : List ℕ) (k : ℕ) → getD (rest xs) k 0 ≡ getD xs (suc k) 0
+rest-at [] k = refl
+rest-at (x ∷ xs) k = refl
 
 -- ---- numbers
 
@@ -94,3 +105,40 @@ number-of-digits-mod (b ∷ bases) n h =
 -- and the number itself where it is below that product
 pub number-of-digits : (bases : List ℕ) (n : ℕ) → Positive bases → n < product bases → numberFrom 0 bases (digitsOf bases n) ≡ n
 number-of-digits bases n h l = number-of-digits-mod bases n h ∙ mod-eq-of-lt l
+
+-- ---- by places, counted from 0
+
+pub length-digits : (bases : List ℕ) (n : ℕ) → length (digitsOf bases n) ≡ length bases
+unfolding digitsOf
+length-digits [] n = refl
+length-digits (b ∷ bases) n = ap suc (length-digits bases n)
+
+pub digit-at : (bases : List ℕ) (n k : ℕ) → k < length bases → getD (digitsOf bases n) k 0 ≡ n / product (drop (suc k) bases) % getD bases k 0
+unfolding digitsOf
+digit-at [] n k l = absurd (omega arith)
+digit-at (b ∷ bases) n zero l = refl
+digit-at (b ∷ bases) n (suc k) l = digit-at bases n k (omega arith)
+
+-- a number rests on as many digits as there are bases
+pub number-ext : (n : ℕ) (bases c d : List ℕ) → ((i : ℕ) → i < length bases → getD c i 0 ≡ getD d i 0) → numberFrom n bases c ≡ numberFrom n bases d
+unfolding numberFrom
+number-ext n [] c d h = refl
+number-ext n (b ∷ bases) c d h =
+    let same : first c ≡ first d = first-at c ∙ h 0 (omega arith) ∙ sym (first-at d) in
+    rw same
+    (number-ext (n * b + first d) bases (rest c) (rest d) (λ i l. rest-at c i ∙ h (suc i) (omega arith) ∙ sym (rest-at d i)))
+
+-- another digit at place k counts as often as all later bases multiply to
+pub number-set : (bases digits : List ℕ) (k x : ℕ) → k < length bases → k < length digits
+    → numberFrom 0 bases (set digits k x) + getD digits k 0 * product (drop (suc k) bases)
+    ≡ numberFrom 0 bases digits + x * product (drop (suc k) bases)
+number-set [] digits k x l m = absurd (omega arith)
+number-set (b ∷ bases) [] k x l m = absurd (omega arith)
+number-set (b ∷ bases) (c ∷ digits) zero x l m = omega (arith, number-first b bases (x ∷ digits), number-first b bases (c ∷ digits))
+number-set (b ∷ bases) (c ∷ digits) (suc k) x l m =
+    omega (
+      arith,
+      number-first b bases (c ∷ set digits k x),
+      number-first b bases (c ∷ digits),
+      number-set bases digits k x (omega arith) (omega arith),
+    )

@@ -55,7 +55,7 @@ coordinates-up (m ∷ moduli) matrix x k l =
     ∙ ap (λ (n : ℕ). n % m) (sym (times-up (firstList matrix) x k l)))
     (coordinates-up moduli (restLists matrix) x k l)
 
-coordinates-down : (moduli : List ℕ) (matrix : List (List ℕ)) (x : List ℕ) (k : ℕ) → k < length x → Positive moduli
+pub coordinates-down : (moduli : List ℕ) (matrix : List (List ℕ)) (x : List ℕ) (k : ℕ) → k < length x → Positive moduli
     → turned false moduli (coordinatesAt moduli matrix (upOne k x)) (columnOf k moduli matrix) ≡ coordinatesAt moduli matrix x
 unfolding turned turn coordinatesAt columnOf Positive
 coordinates-down [] matrix x k l h = refl

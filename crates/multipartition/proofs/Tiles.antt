@@ -9,14 +9,14 @@ use Prim.Native.Nat.{ℕ, zero, suc, _+_, _-_, _*_, _/_, _%_, _<_, _≤_}
 use native.Mathlib.Nat.{mod-lt, mod-eq-of-lt, div-add-mod', div-lt-iff-lt-mul}
 use native.Mathlib.Omega.{arith}
 use lib.Dec.{ltb, eqb}
-use lib.ListN.{length, getD, set, length-append, length-map, List·getD-append}
+use lib.ListN.{length, getD, set, drop, length-append, length-map, List·getD-append}
 use lib.Seq.{getD-append-add, getD-set-same, set-set, set-getD}
 use borrow.Author.Tests.{ltb-true, ltb-false, lt-ltb, le-ltb, eqb-true, eqb-false, eq-eqb, ne-eqb}
 use Rattle.numbers.specs.Products.{product}
 use Rattle.multipartition.specs.Lists.{startingWith}
 use Rattle.multipartition.specs.MixedRadix.{numberFrom, digitsOf}
 use Rattle.multipartition.specs.Tiles.{Inside, isInside, positions, tileNumber, positionOf, oneStepOn}
-use Rattle.multipartition.proofs.MixedRadix.{Positive, number-below, digits-inside, digits-from, digits-of-number, number-of-digits}
+use Rattle.multipartition.proofs.MixedRadix.{Positive, number-below, digits-inside, digits-from, digits-of-number, number-of-digits, number-set}
 
 -- ---- inside the grid
 
@@ -86,6 +86,10 @@ positive-of-product (b ∷ cuts) h =
     (factors-positive b (product cuts) h .0, positive-of-product cuts (factors-positive b (product cuts) h .1))
 
 -- ---- tile numbers
+
+tile-number : (cuts position : List ℕ) → tileNumber cuts position ≡ 1 + numberFrom 0 cuts position
+unfolding tileNumber
+tile-number cuts position = refl
 
 pub number-low : (cuts position : List ℕ) → 1 ≤ tileNumber cuts position
 unfolding tileNumber
@@ -296,3 +300,40 @@ step-back cuts position next k false h e =
     let at-next : getD (set position k (i - 1)) k 0 ≡ i - 1 = getD-set-same position k (i - 1) 0 there in
     let up-again : suc (i - 1) ≡ i = omega (arith, taken .0) in
     rw (← taken .1, at-next, up-again, set-back position k (i - 1), lt-ltb i (getD cuts k 0) (coordinate-below cuts position k h (taken .0)))
+
+-- ---- how far a step leads
+
+-- The tile one step down along k has the number that is lower by as many tiles as there are with one coordinate up to k.
+pub position-one-down : (cuts : List ℕ) (tile k : ℕ) → 1 ≤ tile → tile ≤ product cuts → k < length cuts → zero < getD (positionOf cuts tile) k 0
+    → positionOf cuts (tile - product (drop (suc k) cuts)) ≡ set (positionOf cuts tile) k (getD (positionOf cuts tile) k 0 - 1)
+position-one-down cuts tile k low high l above =
+    ap (positionOf cuts) lower ∙ position-of-number cuts down (inside-set cuts here k (i - 1) inside below)
+  where
+    here : List ℕ
+    here = positionOf cuts tile
+
+    i : ℕ
+    i = getD here k 0
+
+    down : List ℕ
+    down = set here k (i - 1)
+
+    inside : Inside cuts here
+    inside = position-inside cuts tile low high
+
+    below : i - 1 < getD cuts k 0
+    below = omega (arith, inside-below cuts here inside k l)
+
+    part : i * product (drop (suc k) cuts) ≡ (i - 1) * product (drop (suc k) cuts) + product (drop (suc k) cuts)
+    part = let whole : i ≡ i - 1 + 1 = omega (arith, above) in ap (λ (n : ℕ). n * product (drop (suc k) cuts)) whole ∙ omega arith
+
+    lower : tile - product (drop (suc k) cuts) ≡ tileNumber cuts down
+    lower =
+        omega (
+          arith,
+          part,
+          number-set cuts here k (i - 1) l (omega (arith, inside-length cuts here inside)),
+          number-of-position cuts tile low high,
+          tile-number cuts here,
+          tile-number cuts down,
+        )

@@ -3,7 +3,7 @@ use mathlib.Core.Path.{_≡_, refl, sym, ap, _∙_}
 use mathlib.Core.Bool.{Bool, true, false, _&&_}
 use mathlib.Core.List.{List, [], _∷_, _++_}
 use mathlib.Core.Logic.{⊎-elim}
-use Prim.Native.Nat.{ℕ, zero, suc, _+_, _*_, _/_, _%_, _<_, _≤_}
+use Prim.Native.Nat.{ℕ, zero, suc, _+_, _*_, _/_, _<_, _≤_}
 use native.Mathlib.Nat.{le-refl, eq-or-lt-of-le, mul-le-mul, mul-div-right}
 use native.Mathlib.Decide.{decLt}
 use native.Mathlib.Numerals.{add-one}
@@ -14,7 +14,7 @@ use lib.ListN.{length, getD, set, take, drop, replicate, length-append, length-r
 use lib.Seq.{length-take-le, take-append-le, getD-take, getD-set-same, getD-set-other, take-set-lt, set-append-left, ext-getD}
 use borrow.Author.Tests.{eqb-true}
 use Rattle.numbers.specs.Products.{product}
-use Rattle.multipartition.specs.MixedRadix.{numberFrom, digitsOf}
+use Rattle.multipartition.specs.MixedRadix.{numberFrom}
 use Rattle.multipartition.specs.Lists.{allBelow}
 use Rattle.multipartition.specs.Tiles.{isInside}
 use Rattle.layout.specs.declared.Plan.{Plan}
@@ -139,17 +139,6 @@ number-small plan s position g k l =
       product-front (plan .cuts) (plan .d) (s .cuts-long) (s .cut-low) k l,
       s .tiles-high,
     )
-
-pub length-digits : (bases : List ℕ) (n : ℕ) → length (digitsOf bases n) ≡ length bases
-unfolding digitsOf
-length-digits [] n = refl
-length-digits (b ∷ bases) n = ap suc (length-digits bases n)
-
-pub digit-at : (bases : List ℕ) (n k : ℕ) → k < length bases → getD (digitsOf bases n) k 0 ≡ n / product (drop (k + 1) bases) % getD bases k 0
-unfolding digitsOf
-digit-at [] n k l = absurd (omega arith)
-digit-at (b ∷ bases) n zero l = refl
-digit-at (b ∷ bases) n (suc k) l = rw (add-one (suc k)) (rw (add-one k) at (digit-at bases n k (omega arith)))
 
 -- the product of the later bases, one base fewer at a time
 product-later : (bases : List ℕ) (k : ℕ) → k < length bases → product (drop k bases) ≡ getD bases k 0 * product (drop (suc k) bases)

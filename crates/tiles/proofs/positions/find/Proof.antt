@@ -9,10 +9,10 @@ use Rattle.multipartition.specs.Plans.{tilesOf}
 use Rattle.multipartition.specs.MixedRadix.{digitsOf}
 use Rattle.multipartition.specs.Tiles.{positionOf}
 use Rattle.multipartition.specs.Questions.{positionAnswer}
+use Rattle.multipartition.proofs.MixedRadix.{length-digits}
 use Rattle.layout.specs.Plans.{layoutOf}
 use Rattle.layout.proofs.Places.{cuts-length}
 use Rattle.layout.proofs.Shaped.{in-shape-of-shaped}
-use Rattle.tiles.proofs.Coordinates.{length-digits}
 use Rattle.tiles.proofs.Steps.{locates-found}
 use Rattle.tiles.proofs.positions.find.Statement.{statement}
 use Rattle.tiles.proofs.positions.find.Tie as tie
