@@ -1,8 +1,8 @@
 -- Demand 3: the theory's facts about the cheapest cuts, their owners and neighbours, said of what the calls answer.
 use mathlib.Core.Bool.{Bool, true, not}
 use mathlib.Core.List.{List, [], _∷_}
-use mathlib.Core.Logic.{_↔_, _≢_}
-use mathlib.Core.Option.{Option, some}
+use mathlib.Core.Logic.{inl, inr}
+use mathlib.Core.Option.{Option, none, some, Option·none-ne-some}
 use mathlib.Core.Path.{_≡_, refl, sym, ap, ap₂, _∙_, subst, subst⁻¹}
 use Prim.Native.Nat.{ℕ, zero, suc, _-_, _*_, _/_, _≤_, _<_}
 use native.Mathlib.Omega.{arith}
@@ -12,7 +12,7 @@ use Rattle.numbers.specs.Products.{product}
 use Rattle.numbers.specs.Sums.{same}
 use Rattle.multipartition.specs.Answers.{Answer, answered, refused}
 use Rattle.multipartition.specs.Cuts.{Fits, costOf, cheapest}
-use Rattle.multipartition.specs.Jobs.{planAnswer}
+use Rattle.multipartition.specs.Jobs.{Passed, planWith, planAnswer}
 use Rattle.multipartition.specs.Matrix.{matrixOf}
 use Rattle.multipartition.specs.Moduli.{moduliOf}
 use Rattle.multipartition.specs.Neighbours.{neighbourAt}
@@ -25,16 +25,21 @@ use Rattle.multipartition.proofs.Cheapest.{cheapest-fits, cheapest-even}
 use Rattle.multipartition.proofs.Faces.{faces-differ}
 use Rattle.multipartition.proofs.Fitting.{fits-length}
 use Rattle.multipartition.proofs.GridSums.{total, total-ext, held-total}
-use Rattle.multipartition.proofs.Jobs.{PlanFor, plan-answered, plan-in-shape}
+use Rattle.multipartition.proofs.Jobs.{PlanFor, plan-answered, plan-in-shape, plan-of-passed}
+use Rattle.multipartition.proofs.Matrix.{length-matrix, length-matrix-row}
 use Rattle.multipartition.proofs.Minimal.{cheapest-minimal}
+use Rattle.multipartition.proofs.Moduli.{length-moduli}
 use Rattle.multipartition.proofs.Neighbours.{neighbour-owns}
 use Rattle.multipartition.proofs.Owners.{owner-below, even-owners}
 use Rattle.multipartition.proofs.Plans.{between-true-iff, in-shape-moduli-positive}
-use Rattle.multipartition.proofs.Rivals.{cheapest-no-dearer}
+use Rattle.multipartition.proofs.Rivals.{balanced-iff-cheapest, cheapest-no-dearer}
 use Rattle.multipartition.proofs.Tiles.{test-of-inside, one-step-on-inside}
 use Rattle.layout.specs.declared.Plan.{Plan}
-use Rattle.layout.specs.Plans.{layoutOf}
-use Rattle.rivals.specs.Demand3.{cutsOf, processorIn, ownerIn, Ours}
+use Rattle.layout.specs.Plans.{layoutOf, planOf}
+use Rattle.layout.specs.Sized.{Sized}
+use Rattle.layout.proofs.Plans.{layout-of-plan}
+use Rattle.planner.specs.Planned.{plannedOf}
+use Rattle.rivals.specs.Demand3.{cutsOf, processorIn, ownerIn, Ours, Demand3}
 
 -- owners that agree inside the grid hold equally many tiles
 held-ext : (cuts : List ℕ) (own own′ : List ℕ → ℕ) (k s q : ℕ) → ((x : List ℕ) → Inside cuts x → own x ≡ own′ x)
@@ -127,3 +132,47 @@ module _ (p d : ℕ) (extents weights : List ℕ) (plan : Plan) (e : planAnswer 
         (sym (owner-of x w) ∙ same-owner ∙ owner-of y v);
     one-neighbour = neighbour-is;
   }
+
+-- a plan by value can hold the planner's layout
+sized : (p : ℕ) (extents weights cuts : List ℕ) → length extents ≤ 5 → length weights ≡ length extents → length cuts ≡ length extents
+    → Sized (layoutWith p extents weights cuts)
+sized p extents weights cuts few many same-many = record {
+  few = few;
+  extents-length = refl;
+  weights-length = many;
+  cuts-length = same-many;
+  moduli-length = length-moduli p cuts ∙ same-many;
+  matrix-length = length-matrix p cuts ∙ same-many;
+  row-length = λ i l. length-matrix-row p cuts i (subst⁻¹ (λ (n : ℕ). i < n) same-many l) ∙ same-many;
+}
+
+-- DEMAND 3, for all jobs in the stated ranges and all rivals.
+pub demand-3 : (p d : ℕ) (extents weights : List ℕ) → Passed p d extents weights → Demand3 p extents weights (plannedOf (planAnswer p d extents weights))
+unfolding plannedOf planWith
+demand-3 p d extents weights job = go (cheapest p extents weights) refl
+  where
+    go : (chosen : Option (List ℕ)) → cheapest p extents weights ≡ chosen → Demand3 p extents weights (plannedOf (planAnswer p d extents weights))
+    go none e =
+        subst⁻¹ (λ (a : Answer Layout). Demand3 p extents weights (plannedOf a))
+        (plan-of-passed p d extents weights job ∙ ap (planWith p extents weights) e)
+        (record {
+          accepts = (
+            (λ (z : _≡_ {A = ℕ} 5 0). absurd (omega arith)),
+            λ rival. absurd (Option·none-ne-some _ (sym e ∙ balanced-iff-cheapest p extents (job .range .p-low) weights .0 rival .1)),
+          );
+          refuses = inr refl;
+          ours = λ (z : _≡_ {A = ℕ} 5 0). absurd (omega arith);
+        })
+    go (some cuts) e =
+        let answers : planAnswer p d extents weights ≡ answered (layoutWith p extents weights cuts) =
+        plan-of-passed p d extents weights job ∙ ap (planWith p extents weights) e in
+        let many : length cuts ≡ length extents = fits-length extents cuts (cheapest-fits p extents weights cuts e) in
+        let back : layoutOf (planOf (layoutWith p extents weights cuts)) ≡ layoutWith p extents weights cuts =
+        layout-of-plan (layoutWith p extents weights cuts)
+        (sized p extents weights cuts (job .range .d-high) (job .weights-many ∙ sym (job .extents-many)) many) in
+        subst⁻¹ (λ (a : Answer Layout). Demand3 p extents weights (plannedOf a)) answers
+        (record {
+          accepts = ((λ z. balanced-iff-cheapest p extents (job .range .p-low) weights .1 (cuts, e)), λ rival. refl);
+          refuses = inl refl;
+          ours = λ z. ours p d extents weights (planOf (layoutWith p extents weights cuts)) (answers ∙ ap answered (sym back));
+        })

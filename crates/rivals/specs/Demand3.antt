@@ -2,7 +2,7 @@
 -- answer about it, against every rival. The calls promise the definitions planAnswer, ownerAnswer and neighbourAnswer, which stand here for them.
 use mathlib.Core.Bool.{Bool, true}
 use mathlib.Core.List.{List}
-use mathlib.Core.Logic.{_↔_, _≢_}
+use mathlib.Core.Logic.{_⊎_, _↔_, _≢_}
 use mathlib.Core.Option.{Option, some}
 use mathlib.Core.Path.{_≡_}
 use Prim.Native.Nat.{ℕ, _-_, _*_, _/_, _≤_, _<_}
@@ -16,6 +16,7 @@ use Rattle.multipartition.specs.Rivals.{Rival, held, Balanced, Face}
 use Rattle.multipartition.specs.Tiles.{Inside, oneStepOn}
 use Rattle.layout.specs.declared.Plan.{Plan}
 use Rattle.layout.specs.Plans.{layoutOf}
+use Rattle.planner.specs.declared.Planned.{Planned}
 
 -- the cuts of a plan
 abbrev pub cutsOf : Plan → List ℕ
@@ -51,3 +52,12 @@ pub record Ours (p : ℕ) (extents weights : List ℕ) (plan : Plan) : Type 0 wh
   -- q, k and that direction": dimensions are counted from 1
   pub one-neighbour : (k : ℕ) (up : Bool) (x y : List ℕ) → 1 ≤ k → k ≤ plan .d → Inside (cutsOf plan) x → oneStepOn (cutsOf plan) (k - 1) up x ≡ some y
       → neighbourAnswer (layoutOf plan) (ownerIn plan x) k up ≡ answered (some (ownerIn plan y))
+
+-- Demand 3 for a job that planner::plan_job answers with `planned`.
+pub record Demand3 (p : ℕ) (extents weights : List ℕ) (planned : Planned) : Type 0 where
+  -- "ours accepts exactly when some rival gives every processor equally many tiles in every slab"
+  pub accepts : (planned .number ≡ 0) ↔ ((rival : Rival p extents) × Balanced p (rival .cuts) (rival .owner))
+  -- and else refuses with 5
+  pub refuses : (planned .number ≡ 0) ⊎ (planned .number ≡ 5)
+  -- "ours then does too, and costs no more"; faces and neighbours
+  pub ours : planned .number ≡ 0 → Ours p extents weights (planned .plan)
