@@ -1,0 +1,247 @@
+// Runs the grids of document 01 that are not starred, and the examples beside its table, on the calls. What it prints is held to the file stdout.
+// Each function writes its lines into a lent list from a place on, and answers the place after them.
+ghost use mathlib.Core.Path.{_≡_};
+ghost use lib.ListN.{length};
+use layout::Plan;
+use libc::STDOUT_FILENO;
+use planner::Planned;
+use questions::Neighbour;
+use questions::Owner;
+use tiles::positions::Lookup;
+use tiles::slabs::Elements;
+use tiles::slabs::SlabNumber;
+
+// A word, numbers and a line end.
+fn put_line(out: &mut [u8], at: usize, word: &[u8], numbers: &[u32]) -> usize
+    ensures { λ r. ⌜ length (now (out .exit)) ≡ length (now (out .entry)) ⌝ }
+{
+    let next = numerals::put_bytes(out, at, word);
+    numerals::put_numbers(out, next, numbers)
+}
+
+fn put_refused(out: &mut [u8], at: usize, number: u32, place: u32) -> usize
+    ensures { λ r. ⌜ length (now (out .exit)) ≡ length (now (out .entry)) ⌝ }
+{
+    let numbers = [number, place];
+    put_line(out, at, b"refused ", &numbers)
+}
+
+// A word and five numbers.
+fn put_five(out: &mut [u8], at: usize, word: &[u8], numbers: [u32; 5]) -> usize
+    ensures { λ r. ⌜ length (now (out .exit)) ≡ length (now (out .entry)) ⌝ }
+{
+    put_line(out, at, word, &numbers)
+}
+
+// The planner's answer to a job: a refusal, or the cuts and the moduli, in five places each.
+fn put_job(out: &mut [u8], at: usize, p: u32, d: usize, extents: &[u32], weights: &[u32]) -> usize
+    ensures { λ r. ⌜ length (now (out .exit)) ≡ length (now (out .entry)) ⌝ }
+{
+    let planned = planner::plan_job(p, d, extents, weights);
+    if planned.number != 0 {
+        return put_refused(out, at, planned.number, planned.place);
+    }
+    let plan = planned.plan;
+    let cuts = plan.cuts;
+    let moduli = plan.moduli;
+    let next = put_five(out, at, b"cuts ", cuts);
+    put_five(out, next, b"mod ", moduli)
+}
+
+// The position of a tile, in five places.
+fn put_position(out: &mut [u8], at: usize, plan: Plan, tile: u32) -> usize
+    ensures { λ r. ⌜ length (now (out .exit)) ≡ length (now (out .entry)) ⌝ }
+{
+    let located = tiles::positions::position_of(plan, tile);
+    let lookup = located.lookup;
+    let position = located.position;
+    let coordinates = position.at;
+    match lookup {
+        Lookup::Found => put_line(out, at, b"position ", &coordinates),
+        Lookup::Refused { number, place } => put_refused(out, at, number, place),
+    }
+}
+
+fn put_slab(out: &mut [u8], at: usize, plan: Plan, dimension: usize, slab: u32) -> usize
+    ensures { λ r. ⌜ length (now (out .exit)) ≡ length (now (out .entry)) ⌝ }
+{
+    let elements = tiles::slabs::slab_elements(plan, dimension, slab);
+    match elements {
+        Elements::Range { first, after } => {
+            let ends = [first, after];
+            put_line(out, at, b"elements ", &ends)
+        }
+        Elements::Refused { number, place } => put_refused(out, at, number, place),
+    }
+}
+
+fn put_slab_of(out: &mut [u8], at: usize, plan: Plan, dimension: usize, element: u32) -> usize
+    ensures { λ r. ⌜ length (now (out .exit)) ≡ length (now (out .entry)) ⌝ }
+{
+    let slab = tiles::slabs::slab_of(plan, dimension, element);
+    match slab {
+        SlabNumber::Slab(s) => {
+            let number = [s];
+            put_line(out, at, b"slab ", &number)
+        }
+        SlabNumber::Refused { number, place } => put_refused(out, at, number, place),
+    }
+}
+
+fn put_owner(out: &mut [u8], at: usize, plan: Plan, position: &[u32]) -> usize
+    ensures { λ r. ⌜ length (now (out .exit)) ≡ length (now (out .entry)) ⌝ }
+{
+    let owner = questions::owner_of(plan, position);
+    match owner {
+        Owner::Processor(q) => {
+            let number = [q];
+            put_line(out, at, b"owner ", &number)
+        }
+        Owner::Refused { number, place } => put_refused(out, at, number, place),
+    }
+}
+
+fn put_neighbour(
+    out: &mut [u8],
+    at: usize,
+    plan: Plan,
+    q: u32,
+    dimension: usize,
+    up: bool,
+) -> usize {
+    let neighbour = questions::neighbour_of(plan, q, dimension, up);
+    match neighbour {
+        Neighbour::Processor(r) => {
+            let number = [r];
+            put_line(out, at, b"neighbour ", &number)
+        }
+        Neighbour::Nobody => numerals::put_bytes(out, at, b"neighbour none\n"),
+        Neighbour::Refused { number, place } => put_refused(out, at, number, place),
+    }
+}
+
+// 4,096 processors on 4,096 by 4,096, with the last tile and the one after it, and on 4,096 by 4,095.
+fn put_squares(out: &mut [u8], at: usize) -> usize
+    ensures { λ r. ⌜ length (now (out .exit)) ≡ length (now (out .entry)) ⌝ }
+{
+    let ones = [1u32, 1];
+    let square = [4096u32, 4096];
+    let short = [4096u32, 4095];
+    let planned = planner::plan_job(4096, 2, &square, &ones);
+    let mut next = put_job(out, at, 4096, 2, &square, &ones);
+    next = put_position(out, next, planned.plan, 16777216);
+    next = put_position(out, next, planned.plan, 16777217);
+    put_job(out, next, 4096, 2, &short, &ones)
+}
+
+// Six dimensions, no processor and one too many.
+fn put_outside(out: &mut [u8], at: usize) -> usize
+    ensures { λ r. ⌜ length (now (out .exit)) ≡ length (now (out .entry)) ⌝ }
+{
+    let sixes = [6u32; 6];
+    let ones = [1u32; 6];
+    let mut next = put_job(out, at, 1, 6, &sixes, &ones);
+    next = put_job(out, next, 0, 2, &sixes[..2], &ones[..2]);
+    put_job(out, next, 4097, 2, &sixes[..2], &ones[..2])
+}
+
+// A weight too many, and an extent out of range.
+fn put_lists(out: &mut [u8], at: usize) -> usize
+    ensures { λ r. ⌜ length (now (out .exit)) ≡ length (now (out .entry)) ⌝ }
+{
+    let ones = [1u32; 3];
+    let far = [1u32, 1000001];
+    let next = put_job(out, at, 1, 2, &far, &ones);
+    put_job(out, next, 1, 2, &far, &ones[..2])
+}
+
+// Where four slabs of a dimension start and end.
+fn put_four_slabs(out: &mut [u8], at: usize, plan: Plan) -> usize
+    ensures { λ r. ⌜ length (now (out .exit)) ≡ length (now (out .entry)) ⌝ }
+{
+    let mut next = put_slab(out, at, plan, 1, 0);
+    next = put_slab(out, next, plan, 1, 1);
+    next = put_slab(out, next, plan, 1, 2);
+    put_slab(out, next, plan, 1, 3)
+}
+
+// Ten elements in four slabs: the slabs and the one after them, and the slabs of elements 4, 5 and 10.
+fn put_slabs(out: &mut [u8], at: usize) -> usize
+    ensures { λ r. ⌜ length (now (out .exit)) ≡ length (now (out .entry)) ⌝ }
+{
+    let tens = [10u32, 10];
+    let ones = [1u32, 1];
+    let planned = planner::plan_job(4, 2, &tens, &ones);
+    let mut next = put_four_slabs(out, at, planned.plan);
+    next = put_slab(out, next, planned.plan, 1, 4);
+    next = put_slab_of(out, next, planned.plan, 1, 4);
+    next = put_slab_of(out, next, planned.plan, 1, 5);
+    put_slab_of(out, next, planned.plan, 2, 10)
+}
+
+// The owners of a position of the plan for 4 processors on 8 8 8, and of positions outside and of another length.
+fn put_owners(out: &mut [u8], at: usize, plan: Plan) -> usize
+    ensures { λ r. ⌜ length (now (out .exit)) ≡ length (now (out .entry)) ⌝ }
+{
+    let inside = [1u32, 0, 1];
+    let outside = [1u32, 2, 1];
+    let mut next = put_owner(out, at, plan, &inside);
+    next = put_owner(out, next, plan, &outside);
+    put_owner(out, next, plan, &inside[..2])
+}
+
+// The neighbours of a processor of that plan, and questions that are refused: no such dimension, no such processor, neither.
+fn put_neighbours(out: &mut [u8], at: usize, plan: Plan) -> usize
+    ensures { λ r. ⌜ length (now (out .exit)) ≡ length (now (out .entry)) ⌝ }
+{
+    let mut next = put_neighbour(out, at, plan, 0, 1, true);
+    next = put_neighbour(out, next, plan, 0, 0, true);
+    next = put_neighbour(out, next, plan, 4, 1, true);
+    put_neighbour(out, next, plan, 4, 4, false)
+}
+
+// A plan whose processors are not the product of its moduli.
+fn put_shape(out: &mut [u8], at: usize, plan: Plan) -> usize
+    ensures { λ r. ⌜ length (now (out .exit)) ≡ length (now (out .entry)) ⌝ }
+{
+    let mut other = plan;
+    other.p = 5;
+    put_neighbour(out, at, other, 0, 1, true)
+}
+
+// Questions about the plan for 4 processors on 8 8 8.
+fn put_questions(out: &mut [u8], at: usize) -> usize
+    ensures { λ r. ⌜ length (now (out .exit)) ≡ length (now (out .entry)) ⌝ }
+{
+    let eights = [8u32, 8, 8];
+    let ones = [1u32, 1, 1];
+    let planned = planner::plan_job(4, 3, &eights, &ones);
+    let mut next = put_owners(out, at, planned.plan);
+    next = put_neighbours(out, next, planned.plan);
+    put_shape(out, next, planned.plan)
+}
+
+// The plan for 6 processors on 1 9 9, whose first dimension is uncut.
+fn put_uncut(out: &mut [u8], at: usize) -> usize
+    ensures { λ r. ⌜ length (now (out .exit)) ≡ length (now (out .entry)) ⌝ }
+{
+    let extents = [1u32, 9, 9];
+    let ones = [1u32, 1, 1];
+    let planned = planner::plan_job(6, 3, &extents, &ones);
+    let next = put_neighbour(out, at, planned.plan, 3, 1, true);
+    put_neighbour(out, next, planned.plan, 3, 2, false)
+}
+
+fn main() {
+    let mut out = [0u8; 2048];
+    let mut n = put_squares(&mut out, 0);
+    n = put_outside(&mut out, n);
+    n = put_lists(&mut out, n);
+    n = put_slabs(&mut out, n);
+    n = put_questions(&mut out, n);
+    n = put_uncut(&mut out, n);
+    if n <= 2048 {
+        let k = io::count(n as isize, &out);
+        io::write_all(STDOUT_FILENO, &out[..k]);
+    }
+}
