@@ -1,35 +1,25 @@
 -- How long a readable line can be, and that one byte more of a text settles its answer: a program need not read further.
 use mathlib.Core.Path.{_≡_, sym, ap, subst}
 use mathlib.Core.Logic.{inl, inr, ⊎-elim}
-use mathlib.Core.List.{List, [], _∷_, _++_}
+use mathlib.Core.List.{List, _++_}
 use Prim.Native.Nat.{ℕ, _*_, _≤_, _<_}
 use native.Mathlib.Omega.{arith}
 use lib.ListN.{length, take, length-append}
 use lib.Seq.{length-take-le, take-all, take-take}
-use Rattle.numerals.specs.Decimal.{decimal}
-use Rattle.numerals.specs.Lines.{lineOf, separator}
-use Rattle.numerals.proofs.Decimal.{length-decimal, lt-or-le}
+use Rattle.numerals.proofs.Decimal.{lt-or-le}
+use Rattle.numerals.proofs.Lines.{length-line}
 use Rattle.multipartition.specs.Answers.{Answer, answered, refused}
-use Rattle.job_text.specs.Readable.{largest, mostNumbers, AllAtMost, Readable, Begins, Astray, Place, Finds}
+use Rattle.job_text.specs.Readable.{largest, mostNumbers, Readable, Begins, Astray, Place, Finds}
+use Rattle.job_text.proofs.Bounds.{all-at}
 
--- ten digits and what follows them, for each number
-line-length : (ns : List ℕ) → AllAtMost largest ns → length (lineOf ns) ≤ 11 * length ns
-line-length [] h = omega arith
-line-length (n ∷ ns) h =
-    let most = h .0 in
-    let digits = length-decimal 9 n (omega arith) in
-    let rest = line-length ns (h .1) in
-    let e = length-append (decimal n) (separator ns ∷ lineOf ns) in
-    omega arith
-
--- so no readable line is longer than this
+-- ten digits and a byte after them for each number
 abbrev pub longestLine : ℕ
-longestLine = 11 * mostNumbers
+longestLine = mostNumbers * 11
 
 readable-length : (text : List ℕ) → Readable text → length text ≤ longestLine
 readable-length text h =
     let few = h .1 .few in
-    let line = line-length (h .0) (h .1 .small) in
+    let line = length-line 9 (h .0) (λ i l. let small = all-at largest (h .0) (h .1 .small) i in omega arith) in
     let e = ap length (h .2) in
     omega arith
 

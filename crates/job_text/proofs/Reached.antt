@@ -14,6 +14,7 @@ use Rattle.numerals.specs.Lines.{lineOf, separator}
 use Rattle.numerals.proofs.Decimal.{decimal-small, decimal-digit, lt-or-le}
 use Rattle.numerals.proofs.Lines.{spaced, spaced-append, line-append}
 use Rattle.job_text.specs.Readable.{largest, mostNumbers, AllAtMost, LineNumbers, Begins}
+use Rattle.job_text.proofs.Bounds.{all-append}
 use Rattle.job_text.specs.Machine.{State, between, inside, finished, astray, isDigit, afterDigit, afterSpace, afterNewline, step, isAstray}
 
 -- ---- what a state says of the bytes that led there
@@ -34,10 +35,6 @@ by-test P false x y hx hy = hy refl
 
 pub digit-byte : (b : ℕ) → isDigit b ≡ true → (48 ≤ b) × (b ≤ 57)
 digit-byte b h = let p = both (leb 48 b) (leb b 57) h in (leb-true 48 b (p .0), leb-true b 57 (p .1))
-
-all-append : (ns ms : List ℕ) → AllAtMost largest ns → AllAtMost largest ms → AllAtMost largest (ns ++ ms)
-all-append [] ms h k = k
-all-append (n ∷ ns) ms h k = (h .0, all-append ns ms (h .1) k)
 
 pub length-one-more : (ns : List ℕ) (v : ℕ) → length (ns ++ (v ∷ [])) ≡ length ns + 1
 length-one-more ns v = length-append ns (v ∷ [])
@@ -76,7 +73,7 @@ space-reached ns v b t r e =
         let room = ltb-true (length ns + 1) mostNumbers h in
         let long = length-one-more ns v in (
           omega arith,
-          all-append ns (v ∷ []) (r .1) (r .2, tt),
+          all-append largest ns (v ∷ []) (r .1) (r .2, tt),
           ap₂ (λ (u : List ℕ) (x : ℕ). u ++ (x ∷ [])) (r .3) (eqb-true b 32 e)
               ∙ append-assoc (spaced ns) (decimal v) (32 ∷ [])
               ∙ sym (spaced-append ns (v ∷ [])),
@@ -91,7 +88,7 @@ newline-reached ns v b t r e =
         let one = ltb-true 0 (length ns) h in
         let long = length-one-more ns v in
         let most = r .0 in (
-          record { enough = omega arith; few = omega arith; small = all-append ns (v ∷ []) (r .1) (r .2, tt) },
+          record { enough = omega arith; few = omega arith; small = all-append largest ns (v ∷ []) (r .1) (r .2, tt) },
           ap₂ (λ (u : List ℕ) (x : ℕ). u ++ (x ∷ [])) (r .3) (eqb-true b 10 e)
               ∙ append-assoc (spaced ns) (decimal v) (10 ∷ [])
               ∙ sym (line-append ns v []),
@@ -142,13 +139,13 @@ reached-begins (between ns) t e r = ⊎-elim none some (lt-or-le (length ns) 1)
     none : length ns < 1 → Begins t
     none h =
         let long = length-append ns (0 ∷ 0 ∷ []) in
-        extended 0 (0 ∷ []) (record { enough = omega arith; few = omega arith; small = all-append ns (0 ∷ 0 ∷ []) (r .1) (omega arith, (omega arith, tt)) })
+        extended 0 (0 ∷ []) (record { enough = omega arith; few = omega arith; small = all-append largest ns (0 ∷ 0 ∷ []) (r .1) (omega arith, (omega arith, tt)) })
 
     some : 1 ≤ length ns → Begins t
     some h =
         let long = length-append ns (0 ∷ []) in
         let most = r .0 in
-        extended 0 [] (record { enough = omega arith; few = omega arith; small = all-append ns (0 ∷ []) (r .1) (omega arith, tt) })
+        extended 0 [] (record { enough = omega arith; few = omega arith; small = all-append largest ns (0 ∷ []) (r .1) (omega arith, tt) })
 reached-begins (inside ns v) t e r = ⊎-elim none some (lt-or-le (length ns) 1)
   where
     extended : (ms : List ℕ) → LineNumbers (ns ++ (v ∷ ms)) → Begins t
@@ -159,12 +156,12 @@ reached-begins (inside ns v) t e r = ⊎-elim none some (lt-or-le (length ns) 1)
     none : length ns < 1 → Begins t
     none h =
         let long = length-append ns (v ∷ 0 ∷ []) in
-        extended (0 ∷ []) (record { enough = omega arith; few = omega arith; small = all-append ns (v ∷ 0 ∷ []) (r .1) (r .2, (omega arith, tt)) })
+        extended (0 ∷ []) (record { enough = omega arith; few = omega arith; small = all-append largest ns (v ∷ 0 ∷ []) (r .1) (r .2, (omega arith, tt)) })
 
     some : 1 ≤ length ns → Begins t
     some h =
         let long = length-append ns (v ∷ []) in
         let most = r .0 in
-        extended [] (record { enough = omega arith; few = omega arith; small = all-append ns (v ∷ []) (r .1) (r .2, tt) })
+        extended [] (record { enough = omega arith; few = omega arith; small = all-append largest ns (v ∷ []) (r .1) (r .2, tt) })
 reached-begins (finished ns) t e r = begins-by t [] ns (r .0) (append-nil t ∙ r .1)
 reached-begins astray t e r = absurd (true≢false e)

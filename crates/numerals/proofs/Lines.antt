@@ -1,12 +1,13 @@
--- Lines of numbers: a line number by number, from the front and from the end.
+-- Lines of numbers: a line number by number, from the front and from the end, and its length.
 use mathlib.Core.Path.{_≡_, refl, sym, ap, ap₂, _∙_}
 use mathlib.Core.List.{List, [], _∷_, _++_, append-assoc}
-use Prim.Native.Nat.{ℕ, zero, suc, _≤_, _<_}
+use Prim.Native.Nat.{ℕ, zero, suc, _*_, _^_, _≤_, _<_}
 use native.Mathlib.Nat.{not-suc-le-zero, le-of-suc-le-suc}
 use native.Mathlib.Omega.{arith}
-use lib.ListN.{length, drop, getD, length-drop}
+use lib.ListN.{length, drop, getD, length-drop, length-append}
 use Rattle.numerals.specs.Decimal.{decimal}
 use Rattle.numerals.specs.Lines.{separator, lineOf}
+use Rattle.numerals.proofs.Decimal.{length-decimal}
 
 -- numbers with a space after each: the beginning of a longer line
 abbrev pub spaced : List ℕ → List ℕ
@@ -64,3 +65,14 @@ separator-before ns i h = let e = length-drop i ns in separator-some (drop i ns)
 
 pub separator-last : (ns : List ℕ) (i : ℕ) → length ns ≤ i → separator (drop i ns) ≡ 10
 separator-last ns i h = let e = length-drop i ns in separator-none (drop i ns) (omega arith)
+
+-- ---- how long a line is
+
+-- numbers of at most k digits, for a k above 0, and a byte after each
+pub length-line : (k : ℕ) (ns : List ℕ) → ((i : ℕ) → i < length ns → getD ns i 0 < 10 ^ suc k) → length (lineOf ns) ≤ length ns * suc (suc k)
+length-line k [] h = omega arith
+length-line k (n ∷ ns) h =
+    let digits = length-decimal k n (h 0 (omega arith)) in
+    let later = length-line k ns (λ i l. h (suc i) (omega arith)) in
+    let both = length-append (decimal n) (separator ns ∷ lineOf ns) in
+    omega arith
