@@ -1,21 +1,17 @@
 -- Rows, coordinates and numbers by places, counted from 0: one place more at a time, as a loop goes.
 use mathlib.Core.Path.{_≡_, refl}
 use mathlib.Core.List.{List, [], _∷_}
-use Prim.Native.Nat.{ℕ, zero, suc, _+_, _*_, _%_, _<_}
+use Prim.Native.Nat.{ℕ, zero, suc, _+_, _*_, _%_, _<_, _≤_}
 use native.Mathlib.Numerals.{add-one}
 use native.Mathlib.Omega.{arith}
+use lib.Arith.{digits-lt}
 use lib.ListN.{length, getD, take}
+use Rattle.numbers.specs.Products.{product}
 use Rattle.multipartition.specs.Lists.{first, rest}
 use Rattle.multipartition.specs.MixedRadix.{numberFrom}
 use Rattle.multipartition.specs.Owners.{times, coordinatesAt}
-
-pub first-at : (xs : List ℕ) → first xs ≡ getD xs 0 0
-first-at [] = refl
-first-at (x ∷ xs) = refl
-
-pub rest-at : (xs : List ℕ) (k : ℕ) → getD (rest xs) k 0 ≡ getD xs (suc k) 0
-rest-at [] k = refl
-rest-at (x ∷ xs) k = refl
+use Rattle.multipartition.proofs.MixedRadix.{first-at, rest-at}
+use Rattle.layout.proofs.Lists.{product-add-one}
 
 pub times-none : (row position : List ℕ) → times (take 0 row) position ≡ 0
 unfolding times
@@ -55,3 +51,11 @@ coordinate-at (m ∷ moduli) [] position zero h = refl
 coordinate-at (m ∷ moduli) (row ∷ matrix) position zero h = refl
 coordinate-at (m ∷ moduli) [] position (suc i) h = coordinate-at moduli [] position i (omega arith)
 coordinate-at (m ∷ moduli) (row ∷ matrix) position (suc i) h = coordinate-at moduli matrix position i (omega arith)
+
+-- digits below their bases make a number below the product, one place more at a time
+pub number-front-below : (bases digits : List ℕ) (k : ℕ) → k ≤ length bases → ((i : ℕ) → i < k → getD digits i 0 < getD bases i 0)
+    → numberFrom 0 (take k bases) digits < product (take k bases)
+number-front-below bases digits zero l h = rw (number-none 0 bases digits) (omega arith)
+number-front-below bases digits (suc k) l h =
+    rw (← add-one k, number-add-one 0 bases digits k (omega arith), product-add-one bases k (omega arith))
+    (digits-lt (number-front-below bases digits k (omega arith) (λ i m. h i (omega arith))) (h k (omega arith)))

@@ -2,7 +2,7 @@
 -- are the same question for the later bases.
 use mathlib.Core.Path.{_≡_, refl, sym, ap, ap₂, _∙_, subst⁻¹}
 use mathlib.Core.List.{List, [], _∷_}
-use Prim.Native.Nat.{ℕ, zero, suc, _+_, _*_, _/_, _%_, _<_}
+use Prim.Native.Nat.{ℕ, zero, suc, _+_, _*_, _/_, _%_, _<_, _≤_}
 use native.Mathlib.Nat.{zero-lt-suc, mul-pos, mod-lt, mod-one, mod-eq-of-lt, mul-add-div-right, mul-add-mod-self-right}
 use native.Mathlib.Omega.{arith}
 use lib.Arith.{digits-lt, digits-div, mod-mul}
@@ -21,6 +21,24 @@ pub product-positive : (bases : List ℕ) → Positive bases → zero < product 
 unfolding Positive
 product-positive [] h = zero-lt-suc 0
 product-positive (b ∷ bases) h = mul-pos (h .0) (product-positive bases (h .1))
+
+pub positive-of-places : (bases : List ℕ) → ((i : ℕ) → i < length bases → 1 ≤ getD bases i 0) → Positive bases
+unfolding Positive
+positive-of-places [] h = tt
+positive-of-places (b ∷ bases) h = (h 0 (omega arith), positive-of-places bases (λ i l. h (suc i) (omega arith)))
+
+pub positive-drop : (bases : List ℕ) (k : ℕ) → Positive bases → Positive (drop k bases)
+unfolding Positive
+positive-drop [] zero h = tt
+positive-drop [] (suc k) h = tt
+positive-drop (b ∷ bases) zero h = h
+positive-drop (b ∷ bases) (suc k) h = positive-drop bases k (h .1)
+
+-- the product of the bases from k on, one base apart
+pub product-drop : (bases : List ℕ) (k : ℕ) → k < length bases → product (drop k bases) ≡ getD bases k 0 * product (drop (suc k) bases)
+product-drop [] k l = absurd (omega arith)
+product-drop (b ∷ bases) zero l = refl
+product-drop (b ∷ bases) (suc k) l = product-drop bases k (omega arith)
 
 -- ---- the first number of a list and the others, by places
 

@@ -3,8 +3,8 @@ use mathlib.Core.Path.{_≡_, refl, sym, ap, _∙_}
 use mathlib.Core.Bool.{Bool, true, false, _&&_}
 use mathlib.Core.List.{List, [], _∷_, _++_}
 use mathlib.Core.Logic.{⊎-elim}
-use Prim.Native.Nat.{ℕ, zero, suc, _+_, _*_, _/_, _<_, _≤_}
-use native.Mathlib.Nat.{le-refl, eq-or-lt-of-le, mul-le-mul, mul-div-right}
+use Prim.Native.Nat.{ℕ, zero, suc, _+_, _/_, _<_, _≤_}
+use native.Mathlib.Nat.{eq-or-lt-of-le, mul-div-right}
 use native.Mathlib.Decide.{decLt}
 use native.Mathlib.Numerals.{add-one}
 use native.Mathlib.Omega.{arith}
@@ -17,13 +17,14 @@ use Rattle.numbers.specs.Products.{product}
 use Rattle.multipartition.specs.MixedRadix.{numberFrom}
 use Rattle.multipartition.specs.Lists.{allBelow}
 use Rattle.multipartition.specs.Tiles.{isInside}
+use Rattle.multipartition.proofs.MixedRadix.{product-drop}
 use Rattle.layout.specs.declared.Plan.{Plan}
 use Rattle.layout.specs.Plans.{layoutOf, five}
 use Rattle.layout.specs.Positions.{InGrid}
 use Rattle.layout.specs.Shaped.{Shaped}
 use Rattle.layout.proofs.Lists.{all-ext, product-add-one, product-front}
 use Rattle.layout.proofs.Positions.{inside-of-plan}
-use Rattle.layout.proofs.Owners.{number-none, number-add-one}
+use Rattle.layout.proofs.Owners.{number-front-below}
 use Rattle.layout.proofs.Plans.{take-five}
 use Rattle.tiles.specs.declared.positions.Position.{Position}
 use Rattle.tiles.specs.Positions.{coordinates, positionWith}
@@ -121,15 +122,7 @@ filled-all xs at few f =
 
 -- ---- numbers and digits
 
--- coordinates below their cuts make a number below the cuts' product
-pub number-front-below : (bases digits : List ℕ) (k : ℕ) → k ≤ length bases → ((i : ℕ) → i < k → getD digits i 0 < getD bases i 0)
-    → numberFrom 0 (take k bases) digits < product (take k bases)
-number-front-below bases digits zero l h = rw (number-none 0 bases digits) (omega arith)
-number-front-below bases digits (suc k) l h =
-    rw (← add-one k, number-add-one 0 bases digits k (omega arith), product-add-one bases k (omega arith))
-    (digits-lt (number-front-below bases digits k (omega arith) (λ i m. h i (omega arith))) (h k (omega arith)))
-
--- so the number of the first k coordinates stays below the number of tiles
+-- the number of the first k coordinates stays below the number of tiles
 pub number-small : (plan : Plan) → Shaped plan → (position : List ℕ) → InGrid plan position → (k : ℕ) → k ≤ plan .d
     → numberFrom 0 (take k (plan .cuts)) position < 16777216
 number-small plan s position g k l =
@@ -140,19 +133,7 @@ number-small plan s position g k l =
       s .tiles-high,
     )
 
--- the product of the later bases, one base fewer at a time
-product-later : (bases : List ℕ) (k : ℕ) → k < length bases → product (drop k bases) ≡ getD bases k 0 * product (drop (suc k) bases)
-product-later [] k l = absurd (omega arith)
-product-later (b ∷ bases) zero l = refl
-product-later (b ∷ bases) (suc k) l = product-later bases k (omega arith)
-
-pub later-pos : (bases : List ℕ) → ((i : ℕ) → i < length bases → 1 ≤ getD bases i 0) → (k : ℕ) → 1 ≤ product (drop k bases)
-later-pos [] h zero = le-refl 1
-later-pos [] h (suc k) = le-refl 1
-later-pos (b ∷ bases) h zero = mul-le-mul (h 0 (omega arith)) (later-pos bases (λ i l. h (suc i) (omega arith)) zero)
-later-pos (b ∷ bases) h (suc k) = later-pos bases (λ i l. h (suc i) (omega arith)) k
-
 -- dividing by a base leaves the later ones
 pub divide-later : (bases : List ℕ) (k : ℕ) → k < length bases → 1 ≤ getD bases k 0
     → product (drop k bases) / getD bases k 0 ≡ product (drop (k + 1) bases)
-divide-later bases k l low = rw (product-later bases k l, add-one) (mul-div-right (product (drop (suc k) bases)) low)
+divide-later bases k l low = rw (product-drop bases k l, add-one) (mul-div-right (product (drop (suc k) bases)) low)

@@ -8,12 +8,12 @@ use lib.ListN.{length, getD, set, drop}
 use borrow.Author.Needs.{needs}
 use Rattle.numbers.specs.Products.{product}
 use Rattle.multipartition.specs.MixedRadix.{digitsOf}
-use Rattle.multipartition.proofs.MixedRadix.{length-digits, digit-at}
+use Rattle.multipartition.proofs.MixedRadix.{length-digits, digit-at, Positive, product-positive, positive-of-places, positive-drop}
 use Rattle.layout.specs.Plans.{layoutOf}
 use Rattle.layout.specs.declared.Plan.{Plan}
 use Rattle.layout.specs.Shaped.{Shaped}
 use Rattle.layout.proofs.Places.{cuts-length, cut-at}
-use Rattle.tiles.proofs.Coordinates.{Filled, filled-none, filled-more, filled-all, later-pos, divide-later}
+use Rattle.tiles.proofs.Coordinates.{Filled, filled-none, filled-more, filled-all, divide-later}
 use Rattle.tiles.proofs.positions.digits.Statement.{statement}
 use Rattle.tiles.proofs.positions.digits.Tie as tie
 
@@ -36,9 +36,11 @@ next plan s n k l later at e f =
     let fewer : later / getD (plan .cuts) k 0 ≡ product (drop (k + 1) C)
     = rw (e, ← b) (divide-later C k within (rw b (s .cut-low k l))) in
     let digit : getD (digitsOf C n) k 0 ≡ n / (later / getD (plan .cuts) k 0) % getD (plan .cuts) k 0
-    = digit-at C n k within ∙ rw (fewer, b, add-one) in (
+    = digit-at C n k within ∙ rw (fewer, b, add-one) in
+    let positive : Positive C
+    = positive-of-places C (λ i m. let h : i < plan .d = omega (arith, cuts-length plan s) in rw (cut-at plan i h) (s .cut-low i h)) in (
       fewer,
-      rw fewer (later-pos C (λ i m. rw (cut-at plan i (omega (arith, cuts-length plan s))) (s .cut-low i (omega (arith, cuts-length plan s)))) (k + 1)),
+      rw fewer (product-positive (drop (k + 1) C) (positive-drop C (k + 1) positive)),
       rw (← digit) (filled-more (digitsOf C n) k at (omega (arith, s .d-high)) f),
     )
 
