@@ -1,3 +1,4 @@
 pub mod Fill
 pub mod Plans
 pub mod Answers
+pub mod Planning

@@ -4,9 +4,11 @@ use mathlib.Core.List.{List, _∷_, _++_}
 use Prim.Native.Nat.{ℕ, _+_, _-_, _*_, _/_, _%_, _≤_, _<_}
 use native.Mathlib.Nat.{div-add-mod'}
 use native.Mathlib.Omega.{arith}
-use lib.ListN.{length, getD, take, drop, length-append}
-use lib.Seq.{take-all, take-at, drop-at, drop-drop, getD-take, getD-drop}
+use lib.ListN.{length, getD, take, drop, replicate, length-append, length-replicate}
+use lib.Seq.{length-take-le, take-all, take-at, drop-at, drop-drop, getD-take, getD-drop}
+use Rattle.multipartition.specs.Plans.{Layout}
 use Rattle.layout.specs.declared.Plan.{Plan}
+use Rattle.layout.specs.Plans.{flat, planOf}
 use Rattle.solver_link.specs.Link.{planIn, listOfPlan}
 
 -- the lengths of a plan's arrays: every plan by value has them
@@ -16,6 +18,21 @@ pub record Arrays (plan : Plan) : Type 0 where
   pub cuts-length : length (plan .cuts) ≡ 5
   pub moduli-length : length (plan .moduli) ≡ 5
   pub matrix-length : length (plan .matrix) ≡ 25
+
+-- so has the plan of a layout
+pub arrays-of-layout : (layout : Layout) → Arrays (planOf layout)
+unfolding planOf
+arrays-of-layout layout =
+    record {
+      extents-length = length-front 5 (layout .extents);
+      weights-length = length-front 5 (layout .weights);
+      cuts-length = length-front 5 (layout .cuts);
+      moduli-length = length-front 5 (layout .moduli);
+      matrix-length = length-front 25 (flat (layout .matrix));
+    }
+  where
+    length-front : (n : ℕ) (xs : List ℕ) → length (take n (xs ++ replicate n 0)) ≡ n
+    length-front n xs = length-take-le n (xs ++ replicate n 0) (omega (arith, length-append xs (replicate n 0), length-replicate {A = ℕ} n 0))
 
 drop-part : (list part rest : List ℕ) (at n : ℕ) → drop at list ≡ part ++ rest → length part ≡ n → drop (at + n) list ≡ rest
 drop-part list part rest at n e l = sym (drop-drop n at list) ∙ ap (drop n) e ∙ drop-at part rest n l

@@ -8,7 +8,26 @@ use tiles::slabs;
 use tiles::slabs::Elements;
 use tiles::slabs::SlabNumber;
 ghost use lib.ListN.{length};
-ghost use Rattle.solver_link.specs.Link.{ownerLink, neighbourLink, slabLink, slabOfLink, Linked};
+ghost use Rattle.solver_link.specs.Link.{planLink, ownerLink, neighbourLink, slabLink, slabOfLink, Linked};
+
+// Plans a job: the answer list gets the plan list.
+#[no_mangle]
+pub extern "C" fn multipartition_plan(
+    processors: u32,
+    dimensions: u32,
+    extents: &[u32],
+    weights: &[u32],
+    plan: &mut [u32],
+) -> u64
+    ensures { λ r. ⌜ Linked (planLink processors dimensions (now (extents .entry)) (now (weights .entry)) (length (now (plan .entry)))) (now (plan .entry)) r (now (plan .exit)) ⌝ }
+{
+    let planned = planner::plan_job(processors, dimensions as usize, extents, weights);
+    if planned.number != 0 {
+        return lists::joined(planned.number, planned.place);
+    }
+    let found = planned.plan;
+    lists::put_plan(plan, found)
+}
 
 // Who owns a position: the answer list gets the processor.
 #[no_mangle]
