@@ -1,0 +1,55 @@
+/* A solver that sweeps a grid of 9 by 9 by 9 elements on 8 processors: it plans the job, looks at who owns the tiles of one slab, and asks to
+ * whom a processor hands its results when the sweep along dimension 1 goes on to the next slab.
+ *
+ *     rt staticlib solver_link
+ *     cc -Iinclude examples/sweep.c target/staticlib/libsolver_link.a -o target/sweep && target/sweep
+ */
+#include <inttypes.h>
+#include <stdio.h>
+#include <stdlib.h>
+
+#include "multipartition.h"
+
+enum { D = 3, DIMENSION = 1, SLAB = 1, PROCESSOR = 5 };
+
+/* Goes on only where the call was not refused. */
+static void check(uint64_t returned)
+{
+    if (returned != MULTIPARTITION_ANSWERED) {
+        printf("refused %d %" PRIu32 "\n", (int)multipartition_number_of(returned), multipartition_place_of(returned));
+        exit(EXIT_FAILURE);
+    }
+}
+
+int main(void)
+{
+    const uint32_t extents[D] = {9, 9, 9};
+    const uint32_t weights[D] = {1, 1, 1};
+    uint32_t plan[MULTIPARTITION_PLAN_LENGTH];
+    check(multipartition_plan(8, D, extents, D, weights, D, plan, MULTIPARTITION_PLAN_LENGTH));
+    const uint32_t *cuts = plan + MULTIPARTITION_CUTS;
+    printf("%" PRIu32 " processors, %" PRIu32 " by %" PRIu32 " by %" PRIu32 " tiles\n", plan[MULTIPARTITION_PROCESSORS], cuts[0], cuts[1],
+           cuts[2]);
+
+    uint32_t elements[MULTIPARTITION_SLAB_LENGTH];
+    check(multipartition_slab(plan, MULTIPARTITION_PLAN_LENGTH, DIMENSION, SLAB, elements, MULTIPARTITION_SLAB_LENGTH));
+    printf("slab %d of dimension %d has elements %" PRIu32 " to %" PRIu32 "; its tiles belong to\n", SLAB, DIMENSION,
+           elements[MULTIPARTITION_SLAB_FIRST], elements[MULTIPARTITION_SLAB_AFTER] - 1);
+    for (uint32_t j = 0; j < cuts[1]; j++) {
+        for (uint32_t k = 0; k < cuts[2]; k++) {
+            const uint32_t position[D] = {SLAB, j, k};
+            uint32_t owner[MULTIPARTITION_OWNER_LENGTH];
+            check(multipartition_owner(plan, MULTIPARTITION_PLAN_LENGTH, position, D, owner, MULTIPARTITION_OWNER_LENGTH));
+            printf(" %" PRIu32, owner[MULTIPARTITION_OWNER]);
+        }
+        printf("\n");
+    }
+
+    uint32_t next[MULTIPARTITION_NEIGHBOUR_LENGTH];
+    check(multipartition_neighbour(plan, MULTIPARTITION_PLAN_LENGTH, PROCESSOR, DIMENSION, 1, next, MULTIPARTITION_NEIGHBOUR_LENGTH));
+    if (next[MULTIPARTITION_NEIGHBOUR_FOUND])
+        printf("one step up dimension %d from processor %d is processor %" PRIu32 "\n", DIMENSION, PROCESSOR, next[MULTIPARTITION_NEIGHBOUR]);
+    else
+        printf("dimension %d is uncut\n", DIMENSION);
+    return EXIT_SUCCESS;
+}

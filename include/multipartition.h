@@ -1,0 +1,120 @@
+/* Even tiles for line sweeps: plans and questions about them, for a solver in C.
+ *
+ * Link target/staticlib/libsolver_link.a, which `rt staticlib solver_link` proves and builds.
+ *
+ * Lists are of 32-bit numbers. Each is passed as a pointer and its length, which counts numbers, not bytes. Dimensions are numbered
+ * from 1; processors, slabs and elements from 0.
+ *
+ * What a caller may rely on, proved for all numbers and for lists of all lengths and contents:
+ * - Every call returns. It returns 0 and has written every place of its answer lists, or it returns a refusal and has written nothing.
+ *   The refusal is the first of the table below that applies.
+ * - A call reads its lists and nothing else, writes its answer lists and nothing else, and keeps nothing: the same lists get the same answer,
+ *   and calls from several threads need no lock.
+ * - A plan list is any list of 49 numbers. One that multipartition_plan wrote is in shape, and its tiles are even: every processor owns
+ *   equally many tiles in every slab of every dimension. One that is made or changed by hand is answered by the same formulas where it is
+ *   in shape, and refused with 6 where it is not.
+ *
+ * What a caller must see to, since C does not check it: every pointer is not null, also for a list of length 0, points to as many numbers as
+ * its length says, and no answer list shares a place with another list of the call.
+ */
+#ifndef MULTIPARTITION_H
+#define MULTIPARTITION_H
+
+#include <stddef.h>
+#include <stdint.h>
+
+#ifdef __cplusplus
+extern "C" {
+#endif
+
+/* The places of a plan list. Extents, weights, cuts and moduli have five places each, for dimension 1 first; the matrix has five rows of
+ * five places, row after row. Places past the number of dimensions are 0 in a planned list, and are never read. */
+enum {
+    MULTIPARTITION_DIMENSIONS = 0, /* d, the number of dimensions */
+    MULTIPARTITION_PROCESSORS = 1, /* p, the number of processors */
+    MULTIPARTITION_EXTENTS = 2,
+    MULTIPARTITION_WEIGHTS = 7,
+    MULTIPARTITION_CUTS = 12,     /* the number of slabs of each dimension */
+    MULTIPARTITION_COST_LOW = 17, /* the lower 32 bits of the cost */
+    MULTIPARTITION_COST_HIGH = 18,
+    MULTIPARTITION_MODULI = 19,
+    MULTIPARTITION_MATRIX = 24,
+    MULTIPARTITION_PLAN_LENGTH = 49,
+    MULTIPARTITION_ROW_LENGTH = 5 /* row i, counted from 0, starts at MULTIPARTITION_MATRIX + i * MULTIPARTITION_ROW_LENGTH */
+};
+
+/* The places of the other answer lists. */
+enum {
+    MULTIPARTITION_OWNER = 0, /* the processor */
+    MULTIPARTITION_OWNER_LENGTH = 1,
+
+    MULTIPARTITION_NEIGHBOUR_FOUND = 0, /* 1, or 0 if there is no neighbour */
+    MULTIPARTITION_NEIGHBOUR = 1,       /* the processor, or 0 if there is no neighbour */
+    MULTIPARTITION_NEIGHBOUR_LENGTH = 2,
+
+    MULTIPARTITION_SLAB_FIRST = 0, /* the slab's first element */
+    MULTIPARTITION_SLAB_AFTER = 1, /* the element after its last */
+    MULTIPARTITION_SLAB_LENGTH = 2,
+
+    MULTIPARTITION_SLAB_OF = 0, /* the slab */
+    MULTIPARTITION_SLAB_OF_LENGTH = 1
+};
+
+/* What a call returns: 0, or a refusal's number in the lower 32 bits and its place in the upper 32. */
+enum multipartition_number {
+    MULTIPARTITION_ANSWERED = 0,
+    MULTIPARTITION_BAD_DIMENSIONS = 1, /* d is not 2 to 5 */
+    MULTIPARTITION_BAD_PROCESSORS = 2, /* p is not 1 to 4,096 */
+    MULTIPARTITION_BAD_JOB_LENGTH = 3, /* not d extents and d weights */
+    MULTIPARTITION_BAD_EXTENT = 4,     /* an extent is not 1 to 1,000,000; the place is the first such dimension */
+    MULTIPARTITION_NO_CUTS = 5,        /* no cuts that fit are even */
+    MULTIPARTITION_BAD_PLAN = 6,       /* the plan list has another length than 49, or its plan is out of shape */
+    MULTIPARTITION_BAD_DIMENSION = 7,  /* the dimension is not 1 to d */
+    MULTIPARTITION_OUT_OF_RANGE = 8,   /* a slab, element, coordinate or processor out of range, or not d coordinates */
+    MULTIPARTITION_BAD_ANSWER_LENGTH = 9
+};
+
+/* Of what a call returned, the number and the place (0 unless named above). */
+static inline enum multipartition_number multipartition_number_of(uint64_t returned)
+{
+    return (enum multipartition_number)(returned & UINT32_MAX);
+}
+
+static inline uint32_t multipartition_place_of(uint64_t returned)
+{
+    return (uint32_t)(returned >> 32);
+}
+
+/* Plans a job: the even cuts that fit and cost least, and the rule that says who owns each tile.
+ * The answer list is a plan list. Refused with 1 to 5, then 9. */
+uint64_t multipartition_plan(uint32_t processors, uint32_t dimensions,
+                             const uint32_t *extents, size_t extents_length,
+                             const uint32_t *weights, size_t weights_length,
+                             uint32_t *plan, size_t plan_length);
+
+/* Who owns the tile at a position: d coordinates, each below its cut. Refused with 6, 8, 9. */
+uint64_t multipartition_owner(const uint32_t *plan, size_t plan_length,
+                              const uint32_t *position, size_t position_length,
+                              uint32_t *answer, size_t answer_length);
+
+/* Who owns the tiles one step from a processor's tiles along a dimension: upward, or downward if `up` is 0. There is no neighbour where
+ * the dimension is uncut. Refused with 6, 7, 8, 9. */
+uint64_t multipartition_neighbour(const uint32_t *plan, size_t plan_length,
+                                  uint32_t processor, uint32_t dimension, uint32_t up,
+                                  uint32_t *answer, size_t answer_length);
+
+/* Which elements of a dimension a slab holds. Refused with 6, 7, 8, 9. */
+uint64_t multipartition_slab(const uint32_t *plan, size_t plan_length,
+                             uint32_t dimension, uint32_t slab,
+                             uint32_t *answer, size_t answer_length);
+
+/* Which slab of a dimension holds an element. Refused with 6, 7, 8, 9. */
+uint64_t multipartition_slab_of(const uint32_t *plan, size_t plan_length,
+                                uint32_t dimension, uint32_t element,
+                                uint32_t *answer, size_t answer_length);
+
+#ifdef __cplusplus
+}
+#endif
+
+#endif

@@ -1,0 +1,157 @@
+/* Every refusal through the link, from C: the number, the place, and that the lent lists keep their contents. Lists are in memory of just their
+ * size, so that a tool that watches memory sees a place read or written beside them. */
+#include <inttypes.h>
+#include <stdio.h>
+#include <stdlib.h>
+#include <string.h>
+
+#include "multipartition.h"
+
+enum { KEPT = 77 };
+
+static int failures = 0;
+
+/* A list of its own memory with the same number everywhere. */
+static uint32_t *filled(size_t length, uint32_t number)
+{
+    uint32_t *list = malloc(length ? length * sizeof *list : 1);
+    if (!list)
+        abort();
+    for (size_t i = 0; i < length; i++)
+        list[i] = number;
+    return list;
+}
+
+/* A copy of the first places of a list, with KEPT after them. */
+static uint32_t *copied(const uint32_t *from, size_t count, size_t length)
+{
+    uint32_t *list = filled(length, KEPT);
+    memcpy(list, from, (count < length ? count : length) * sizeof *list);
+    return list;
+}
+
+static void expect(const char *what, uint64_t returned, enum multipartition_number number, uint32_t place)
+{
+    if (multipartition_number_of(returned) == number && multipartition_place_of(returned) == place)
+        return;
+    printf("%s: returned %d %" PRIu32 ", not %d %" PRIu32 "\n", what, (int)multipartition_number_of(returned),
+           multipartition_place_of(returned), (int)number, place);
+    failures++;
+}
+
+static void expect_kept(const char *what, uint32_t *list, size_t length)
+{
+    for (size_t i = 0; i < length; i++)
+        if (list[i] != KEPT) {
+            printf("%s: place %zu of a lent list was written\n", what, i);
+            failures++;
+        }
+    free(list);
+}
+
+/* ---- jobs */
+
+static void job(const char *what, uint32_t p, uint32_t d, size_t extents_length, uint32_t extent, uint32_t last_extent, size_t weights_length,
+                size_t plan_length, enum multipartition_number number, uint32_t place)
+{
+    uint32_t *extents = filled(extents_length, extent);
+    uint32_t *weights = filled(weights_length, 1);
+    uint32_t *plan = filled(plan_length, KEPT);
+    if (extents_length)
+        extents[extents_length - 1] = last_extent;
+    expect(what, multipartition_plan(p, d, extents, extents_length, weights, weights_length, plan, plan_length), number, place);
+    expect_kept(what, plan, plan_length);
+    free(extents);
+    free(weights);
+}
+
+static void jobs(void)
+{
+    const size_t n = MULTIPARTITION_PLAN_LENGTH;
+    job("d too small", 4, 1, 1, 8, 8, 1, n, MULTIPARTITION_BAD_DIMENSIONS, 0);
+    job("d too large", 0, 6, 0, 8, 8, 0, n, MULTIPARTITION_BAD_DIMENSIONS, 0);
+    job("no processor", 0, 2, 0, 8, 8, 0, n, MULTIPARTITION_BAD_PROCESSORS, 0);
+    job("too many processors", 4097, 2, 2, 8, 8, 2, n, MULTIPARTITION_BAD_PROCESSORS, 0);
+    job("too few extents", 4, 3, 2, 8, 8, 3, n, MULTIPARTITION_BAD_JOB_LENGTH, 0);
+    job("too many weights", 4, 3, 3, 0, 0, 4, n, MULTIPARTITION_BAD_JOB_LENGTH, 0);
+    job("first extent 0", 4, 3, 3, 0, 8, 3, n, MULTIPARTITION_BAD_EXTENT, 1);
+    job("last extent too large", 4, 3, 3, 8, 1000001, 3, n, MULTIPARTITION_BAD_EXTENT, 3);
+    job("no cuts", 4, 2, 2, 3, 8, 2, n, MULTIPARTITION_NO_CUTS, 0);
+    job("no cuts before the length", 4, 2, 2, 3, 8, 2, 0, MULTIPARTITION_NO_CUTS, 0);
+    job("plan list too short", 4, 3, 3, 8, 8, 3, n - 1, MULTIPARTITION_BAD_ANSWER_LENGTH, 0);
+    job("plan list too long", 4, 3, 3, 8, 8, 3, n + 1, MULTIPARTITION_BAD_ANSWER_LENGTH, 0);
+}
+
+/* ---- questions */
+
+/* A question: the numbers, the length of the position, and that of the answer lists. */
+struct question {
+    uint32_t processor, dimension, slab, element, coordinate;
+    size_t position, answer;
+};
+
+/* Each question about a plan list is refused with this number. */
+static void questions(const char *what, const uint32_t *plan, size_t length, struct question q, enum multipartition_number owner,
+                      enum multipartition_number others)
+{
+    uint32_t *list = copied(plan, MULTIPARTITION_PLAN_LENGTH, length);
+    uint32_t *position = filled(q.position, q.coordinate);
+    uint32_t *answer = filled(q.answer, KEPT);
+    expect(what, multipartition_owner(list, length, position, q.position, answer, q.answer), owner, 0);
+    expect(what, multipartition_neighbour(list, length, q.processor, q.dimension, 1, answer, q.answer), others, 0);
+    expect(what, multipartition_neighbour(list, length, q.processor, q.dimension, 0, answer, q.answer), others, 0);
+    expect(what, multipartition_slab(list, length, q.dimension, q.slab, answer, q.answer), others, 0);
+    expect(what, multipartition_slab_of(list, length, q.dimension, q.element, answer, q.answer), others, 0);
+    expect_kept(what, answer, q.answer);
+    free(position);
+    free(list);
+}
+
+/* One number of a plan in shape is changed. */
+static void out_of_shape(const uint32_t *plan, size_t place, uint32_t number)
+{
+    const struct question good = {3, 3, 1, 7, 1, 3, 2};
+    uint32_t *changed = copied(plan, MULTIPARTITION_PLAN_LENGTH, MULTIPARTITION_PLAN_LENGTH);
+    changed[place] = number;
+    questions("out of shape", changed, MULTIPARTITION_PLAN_LENGTH, good, MULTIPARTITION_BAD_PLAN, MULTIPARTITION_BAD_PLAN);
+    free(changed);
+}
+
+int main(void)
+{
+    const size_t n = MULTIPARTITION_PLAN_LENGTH;
+    const uint32_t extents[3] = {8, 8, 8};
+    const uint32_t weights[3] = {1, 1, 1};
+    uint32_t plan[MULTIPARTITION_PLAN_LENGTH];
+    jobs();
+    expect("a job", multipartition_plan(4, 3, extents, 3, weights, 3, plan, n), MULTIPARTITION_ANSWERED, 0);
+
+    const struct question good = {3, 3, 1, 7, 1, 3, 2};
+    questions("plan list empty", plan, 0, good, MULTIPARTITION_BAD_PLAN, MULTIPARTITION_BAD_PLAN);
+    questions("plan list too short", plan, n - 1, good, MULTIPARTITION_BAD_PLAN, MULTIPARTITION_BAD_PLAN);
+    questions("plan list too long", plan, n + 1, good, MULTIPARTITION_BAD_PLAN, MULTIPARTITION_BAD_PLAN);
+    out_of_shape(plan, MULTIPARTITION_DIMENSIONS, 6);
+    out_of_shape(plan, MULTIPARTITION_PROCESSORS, 0);
+    out_of_shape(plan, MULTIPARTITION_EXTENTS + 2, 1000001);
+    out_of_shape(plan, MULTIPARTITION_CUTS + 1, 9);
+    out_of_shape(plan, MULTIPARTITION_MODULI, 0);
+    out_of_shape(plan, MULTIPARTITION_MODULI + 2, 4);
+    out_of_shape(plan, MULTIPARTITION_MATRIX + 2 * MULTIPARTITION_ROW_LENGTH + 2, 2);
+
+    const struct question no_dimension = {4, 0, 2, 8, 2, 3, 0};
+    const struct question high_dimension = {4, 4, 2, 8, 1, 2, 0};
+    const struct question out_of_range = {4, 1, 2, 8, UINT32_MAX, 3, 0};
+    const struct question long_position = {UINT32_MAX, 3, UINT32_MAX, UINT32_MAX, 0, 4, 0};
+    const struct question no_answer_list = {3, 3, 1, 7, 1, 3, 0};
+    const struct question long_answer_list = {3, 3, 1, 7, 1, 3, 3};
+    questions("dimension 0", plan, n, no_dimension, MULTIPARTITION_OUT_OF_RANGE, MULTIPARTITION_BAD_DIMENSION);
+    questions("dimension 4", plan, n, high_dimension, MULTIPARTITION_OUT_OF_RANGE, MULTIPARTITION_BAD_DIMENSION);
+    questions("out of range", plan, n, out_of_range, MULTIPARTITION_OUT_OF_RANGE, MULTIPARTITION_OUT_OF_RANGE);
+    questions("position too long", plan, n, long_position, MULTIPARTITION_OUT_OF_RANGE, MULTIPARTITION_OUT_OF_RANGE);
+    questions("no answer list", plan, n, no_answer_list, MULTIPARTITION_BAD_ANSWER_LENGTH, MULTIPARTITION_BAD_ANSWER_LENGTH);
+    questions("answer list too long", plan, n, long_answer_list, MULTIPARTITION_BAD_ANSWER_LENGTH, MULTIPARTITION_BAD_ANSWER_LENGTH);
+
+    if (failures == 0)
+        printf("every refusal is as stated\n");
+    return failures == 0 ? EXIT_SUCCESS : EXIT_FAILURE;
+}

@@ -1,0 +1,121 @@
+//! The calls of include/multipartition.h. None has a precondition beyond what slices give, so each is
+//! safe to call.
+
+// A slice is passed as a pointer and its length.
+extern "C" {
+    fn multipartition_plan(
+        processors: u32,
+        dimensions: u32,
+        extents: *const u32,
+        extents_length: usize,
+        weights: *const u32,
+        weights_length: usize,
+        plan: *mut u32,
+        plan_length: usize,
+    ) -> u64;
+
+    fn multipartition_owner(
+        plan: *const u32,
+        plan_length: usize,
+        position: *const u32,
+        position_length: usize,
+        answer: *mut u32,
+        answer_length: usize,
+    ) -> u64;
+
+    fn multipartition_neighbour(
+        plan: *const u32,
+        plan_length: usize,
+        processor: u32,
+        dimension: u32,
+        up: u32,
+        answer: *mut u32,
+        answer_length: usize,
+    ) -> u64;
+
+    fn multipartition_slab(
+        plan: *const u32,
+        plan_length: usize,
+        dimension: u32,
+        slab: u32,
+        answer: *mut u32,
+        answer_length: usize,
+    ) -> u64;
+
+    fn multipartition_slab_of(
+        plan: *const u32,
+        plan_length: usize,
+        dimension: u32,
+        element: u32,
+        answer: *mut u32,
+        answer_length: usize,
+    ) -> u64;
+}
+
+pub fn plan(p: u32, d: u32, extents: &[u32], weights: &[u32], plan: &mut [u32]) -> u64 {
+    unsafe {
+        multipartition_plan(
+            p,
+            d,
+            extents.as_ptr(),
+            extents.len(),
+            weights.as_ptr(),
+            weights.len(),
+            plan.as_mut_ptr(),
+            plan.len(),
+        )
+    }
+}
+
+pub fn owner(plan: &[u32], position: &[u32], answer: &mut [u32]) -> u64 {
+    unsafe {
+        multipartition_owner(
+            plan.as_ptr(),
+            plan.len(),
+            position.as_ptr(),
+            position.len(),
+            answer.as_mut_ptr(),
+            answer.len(),
+        )
+    }
+}
+
+pub fn neighbour(plan: &[u32], processor: u32, dimension: u32, up: u32, answer: &mut [u32]) -> u64 {
+    unsafe {
+        multipartition_neighbour(
+            plan.as_ptr(),
+            plan.len(),
+            processor,
+            dimension,
+            up,
+            answer.as_mut_ptr(),
+            answer.len(),
+        )
+    }
+}
+
+pub fn slab(plan: &[u32], dimension: u32, slab: u32, answer: &mut [u32]) -> u64 {
+    unsafe {
+        multipartition_slab(
+            plan.as_ptr(),
+            plan.len(),
+            dimension,
+            slab,
+            answer.as_mut_ptr(),
+            answer.len(),
+        )
+    }
+}
+
+pub fn slab_of(plan: &[u32], dimension: u32, element: u32, answer: &mut [u32]) -> u64 {
+    unsafe {
+        multipartition_slab_of(
+            plan.as_ptr(),
+            plan.len(),
+            dimension,
+            element,
+            answer.as_mut_ptr(),
+            answer.len(),
+        )
+    }
+}

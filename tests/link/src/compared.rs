@@ -1,0 +1,110 @@
+//! Calls beside the independent planner's answers to the same questions.
+
+use oracle::plan::{plan_job, Plan};
+use oracle::refusal::{self, Refusal};
+use oracle::{neighbours, owners, slabs};
+
+use crate::calls;
+use crate::guarded::Guarded;
+use crate::plan_list::{list_of, plan_of};
+use crate::questions::{Job, Question};
+
+/// Memory for the three lists that a call may have. They stand at its end in one call, at its beginning in
+/// the next.
+#[derive(Default)]
+pub struct Lists {
+    first: Guarded,
+    second: Guarded,
+    third: Guarded,
+    at_end: bool,
+}
+
+impl Lists {
+    fn hold(&mut self, lists: [&[u32]; 3]) -> [&mut [u32]; 3] {
+        self.at_end = !self.at_end;
+        [
+            self.first.hold(lists[0], self.at_end),
+            self.second.hold(lists[1], self.at_end),
+            self.third.hold(lists[2], self.at_end),
+        ]
+    }
+}
+
+/// What a call returns where it is refused.
+fn code(refusal: Refusal) -> u64 {
+    u64::from(refusal.number) | (refusal.place as u64) << 32
+}
+
+/// What a call is to return, and what it is to leave in its answer list.
+fn outcome(answer: Result<Vec<u32>, Refusal>, lent: &[u32]) -> (u64, Vec<u32>) {
+    match answer {
+        Ok(numbers) if numbers.len() == lent.len() => (0, numbers),
+        Ok(_) => (code(refusal::LIST), lent.to_vec()),
+        Err(refusal) => (code(refusal), lent.to_vec()),
+    }
+}
+
+/// The independent answer to a question about a plan.
+fn answer(plan: &Plan, question: &Question) -> Result<Vec<u32>, Refusal> {
+    let numbers = match *question {
+        Question::Owner { ref position } => vec![owners::owner(plan, position)?],
+        Question::Neighbour {
+            processor,
+            dimension,
+            up,
+        } => match neighbours::neighbour(plan, processor, dimension, up != 0)? {
+            Some(next) => vec![1, next],
+            None => vec![0, 0],
+        },
+        Question::Slab { dimension, slab } => {
+            let (first, after) = slabs::elements(plan, dimension, slab)?;
+            vec![first, after]
+        }
+        Question::SlabOf { dimension, element } => vec![slabs::slab_of(plan, dimension, element)?],
+    };
+    Ok(numbers)
+}
+
+/// Asks a question about a plan list. What is returned and what the lent list then holds are as the
+/// independent answer has it.
+pub fn ask(lists: &mut Lists, list: &[u32], question: &Question, lent: &[u32]) -> u64 {
+    let answered = plan_of(list)
+        .ok_or(refusal::SHAPE)
+        .and_then(|plan| answer(&plan, question));
+    let position = match question {
+        Question::Owner { position } => &position[..],
+        _ => &[],
+    };
+    let [list, position, lent_list] = lists.hold([list, position, lent]);
+    let returned = match *question {
+        Question::Owner { .. } => calls::owner(list, position, lent_list),
+        Question::Neighbour {
+            processor,
+            dimension,
+            up,
+        } => calls::neighbour(list, processor, dimension, up, lent_list),
+        Question::Slab { dimension, slab } => calls::slab(list, dimension, slab, lent_list),
+        Question::SlabOf { dimension, element } => {
+            calls::slab_of(list, dimension, element, lent_list)
+        }
+    };
+    assert_eq!(
+        (returned, lent_list.to_vec()),
+        outcome(answered, lent),
+        "{question:?} of {list:?}"
+    );
+    returned
+}
+
+/// Plans a job, likewise.
+pub fn plan(lists: &mut Lists, job: &Job, lent: &[u32]) -> u64 {
+    let planned = plan_job(job.p, job.d, &job.extents, &job.weights);
+    let [extents, weights, lent_list] = lists.hold([&job.extents, &job.weights, lent]);
+    let returned = calls::plan(job.p, job.d, extents, weights, lent_list);
+    assert_eq!(
+        (returned, lent_list.to_vec()),
+        outcome(planned.map(|plan| list_of(&plan)), lent),
+        "{job:?}"
+    );
+    returned
+}

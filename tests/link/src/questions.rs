@@ -1,0 +1,222 @@
+//! Random jobs, plan lists and questions, many of them damaged.
+
+use oracle::cases;
+use oracle::plan::{plan_job, Plan};
+use oracle::random::Random;
+
+use crate::plan_list::{list_of, plan_of, LENGTH};
+
+#[derive(Clone, Debug)]
+pub struct Job {
+    pub p: u32,
+    pub d: u32,
+    pub extents: Vec<u32>,
+    pub weights: Vec<u32>,
+}
+
+#[derive(Clone, Debug)]
+pub enum Question {
+    Owner {
+        position: Vec<u32>,
+    },
+    Neighbour {
+        processor: u32,
+        dimension: u32,
+        up: u32,
+    },
+    Slab {
+        dimension: u32,
+        slab: u32,
+    },
+    SlabOf {
+        dimension: u32,
+        element: u32,
+    },
+}
+
+impl Question {
+    /// How many places the answer has.
+    pub fn places(&self) -> usize {
+        match self {
+            Question::Owner { .. } | Question::SlabOf { .. } => 1,
+            Question::Neighbour { .. } | Question::Slab { .. } => 2,
+        }
+    }
+}
+
+/// Numbers at and beside the limits of document 01.
+const EDGES: [u32; 14] = [
+    0,
+    1,
+    2,
+    3,
+    5,
+    6,
+    4095,
+    4096,
+    4097,
+    999_999,
+    1_000_000,
+    1_000_001,
+    1 << 31,
+    u32::MAX,
+];
+
+/// A number to put in place of `old`: beside it, at a limit, or any.
+fn another(random: &mut Random, old: u32) -> u32 {
+    match random.between(0, 5) {
+        0 => old.wrapping_add(1),
+        1 => old.wrapping_sub(1),
+        2 => random.draw() as u32,
+        _ => *random.pick(&EDGES),
+    }
+}
+
+/// A number below `limit`, or, once in a while, one that is not.
+fn mostly_below(random: &mut Random, limit: u32) -> u32 {
+    if limit == 0 || random.once_in(12) {
+        another(random, limit)
+    } else {
+        random.between(0, u64::from(limit) - 1) as u32
+    }
+}
+
+pub fn any_numbers(random: &mut Random, count: usize) -> Vec<u32> {
+    (0..count).map(|_| random.draw() as u32).collect()
+}
+
+/// A job of the comparison of printed plans, as numbers. Extents and weights share what follows d, so they
+/// are not d many if the line has too few or too many numbers.
+pub fn job(random: &mut Random) -> Job {
+    let line = String::from_utf8(cases::job(random)).expect("digits and blanks");
+    let numbers: Vec<u32> = line
+        .split_whitespace()
+        .map(|word| word.parse().expect("a number of 32 bits"))
+        .collect();
+    let rest = &numbers[2..];
+    let (extents, weights) = rest.split_at(rest.len().min(numbers[1] as usize));
+    Job {
+        p: numbers[0],
+        d: numbers[1],
+        extents: extents.to_vec(),
+        weights: weights.to_vec(),
+    }
+}
+
+/// Plans of random jobs.
+pub fn planned(random: &mut Random, count: usize) -> Vec<Plan> {
+    let jobs = std::iter::repeat_with(|| job(random));
+    let plans = jobs.filter_map(|job| plan_job(job.p, job.d, &job.extents, &job.weights).ok());
+    plans.take(count).collect()
+}
+
+/// A number from 1 to `most`, small more often than not.
+fn factor(random: &mut Random, most: u64) -> u64 {
+    let high = if random.once_in(3) { most } else { most.min(9) };
+    random.between(1, high)
+}
+
+/// A plan in shape that no planner made: any cuts, any moduli that multiply to p, any matrix, and anything
+/// in the places past d.
+pub fn made_by_hand(random: &mut Random) -> Plan {
+    let d = random.between(2, 5) as usize;
+    let mut list = any_numbers(random, LENGTH);
+    let (mut p, mut tiles) = (1, 1);
+    for k in 0..d {
+        let modulus = factor(random, 4096 / p);
+        let cut = factor(random, 4096.min(16_777_216 / tiles));
+        let extent = cut + factor(random, 1_000_001 - cut) - 1;
+        p *= modulus;
+        tiles *= cut;
+        (list[2 + k], list[12 + k], list[19 + k]) = (extent as u32, cut as u32, modulus as u32);
+        for j in 0..d {
+            list[24 + 5 * k + j] = random.between(0, modulus - 1) as u32;
+        }
+    }
+    (list[0], list[1]) = (d as u32, p as u32);
+    plan_of(&list).expect("a list of the right length")
+}
+
+/// The list of a plan of the pool, or of one made by hand, as it is or damaged.
+pub fn plan_list(random: &mut Random, pool: &[Plan]) -> Vec<u32> {
+    let mut list = if random.once_in(2) {
+        list_of(random.pick(pool))
+    } else {
+        list_of(&made_by_hand(random))
+    };
+    match random.between(0, 15) {
+        0..=8 => (),
+        9..=13 => {
+            for _ in 0..random.between(1, 3) {
+                let at = random.between(0, LENGTH as u64 - 1) as usize;
+                list[at] = another(random, list[at]);
+            }
+        }
+        14 => list = any_numbers(random, LENGTH),
+        _ => {
+            let length = *random.pick(&[0, 1, 24, 47, 48, 50, 98]);
+            list.resize(length, 1);
+        }
+    }
+    list
+}
+
+/// A question about the plan of a list, as if the list were in order.
+pub fn question(random: &mut Random, list: &[u32]) -> Question {
+    let place = |at: usize| list.get(at).copied().unwrap_or(3);
+    let d = place(0).min(6);
+    let dimension = if random.once_in(12) {
+        another(random, d)
+    } else {
+        random.between(1, u64::from(d.max(1))) as u32
+    };
+    let k = (dimension as usize).clamp(1, 5) - 1;
+    match random.between(0, 3) {
+        0 => {
+            let mut position: Vec<u32> = (0..d as usize)
+                .map(|k| mostly_below(random, place(12 + k)))
+                .collect();
+            if random.once_in(24) {
+                position.resize(random.between(0, 7) as usize, 0);
+            }
+            Question::Owner { position }
+        }
+        1 => Question::Neighbour {
+            processor: mostly_below(random, place(1)),
+            dimension,
+            up: *random.pick(&[0, 0, 1, 1, 2, u32::MAX]),
+        },
+        2 => Question::Slab {
+            dimension,
+            slab: mostly_below(random, place(12 + k)),
+        },
+        _ => Question::SlabOf {
+            dimension,
+            element: mostly_below(random, place(2 + k)),
+        },
+    }
+}
+
+/// A list to lend for an answer of so many places, most often of that length.
+pub fn lent(random: &mut Random, places: usize) -> Vec<u32> {
+    let length = if random.once_in(16) {
+        *random.pick(&[0, 1, 2, 3, places + 1])
+    } else {
+        places
+    };
+    any_numbers(random, length)
+}
+
+#[cfg(test)]
+mod tests {
+    use super::*;
+
+    #[test]
+    fn plans_made_by_hand_are_in_shape() {
+        let mut random = Random::new(1);
+        for _ in 0..20_000 {
+            let plan = made_by_hand(&mut random);
+            assert_eq!(plan.check_shape(), Ok(()), "{plan:?}");
+        }
+    }
+}

@@ -1,0 +1,132 @@
+//! Every refusal through the link, in the order of document 01's table, and what a refusal leaves alone.
+
+use link::calls::{neighbour, owner, plan, slab, slab_of};
+use link::plan_list::LENGTH;
+
+/// The plan of 4 processors on a grid of 8 by 8 by 8: cuts 2 2 2.
+fn planned() -> [u32; LENGTH] {
+    let mut list = [7; LENGTH];
+    assert_eq!(plan(4, 3, &[8; 3], &[1; 3], &mut list), 0);
+    list
+}
+
+/// Checks that a call with this answer list returns this and leaves the list as it was.
+fn refused<const N: usize>(expected: u64, call: impl FnOnce(&mut [u32]) -> u64) {
+    let mut answer = [77; N];
+    assert_eq!(call(&mut answer), expected);
+    assert_eq!(answer, [77; N]);
+}
+
+#[test]
+fn jobs() {
+    refused::<49>(1, |list| plan(0, 6, &[], &[], list));
+    refused::<49>(1, |list| plan(0, 1, &[], &[], list));
+    refused::<49>(2, |list| plan(0, 2, &[], &[], list));
+    refused::<49>(2, |list| plan(4097, 5, &[1], &[], list));
+    refused::<49>(3, |list| plan(1, 2, &[0; 3], &[0; 2], list));
+    refused::<49>(3, |list| plan(1, 2, &[0; 2], &[0; 1], list));
+    refused::<49>(4 | 1 << 32, |list| plan(1, 2, &[0, 0], &[0; 2], list));
+    refused::<49>(4 | 2 << 32, |list| {
+        plan(1, 2, &[1, 1_000_001], &[0; 2], list)
+    });
+    refused::<49>(4 | 5 << 32, |list| {
+        plan(1, 5, &[1, 1, 1, 1, 0], &[0; 5], list)
+    });
+    refused::<49>(5, |list| plan(2, 2, &[1, 9], &[1; 2], list));
+    refused::<48>(5, |list| plan(4, 3, &[1, 3, 9], &[1; 3], list));
+    refused::<48>(9, |list| plan(4, 3, &[8; 3], &[1; 3], list));
+    refused::<50>(9, |list| plan(4, 3, &[8; 3], &[1; 3], list));
+    refused::<0>(9, |list| plan(4, 3, &[8; 3], &[1; 3], list));
+}
+
+#[test]
+fn plan_lists_of_another_length() {
+    let list = [planned().to_vec(), vec![0]].concat();
+    for plan in [&list[..0], &list[..48], &list[..50]] {
+        refused::<1>(6, |answer| owner(plan, &[0; 3], answer));
+        refused::<2>(6, |answer| neighbour(plan, 0, 1, 1, answer));
+        refused::<2>(6, |answer| slab(plan, 1, 0, answer));
+        refused::<1>(6, |answer| slab_of(plan, 1, 0, answer));
+    }
+}
+
+#[test]
+fn plans_out_of_shape() {
+    // d, p, an extent, a cut below and above its range, a modulus, the moduli's product, an entry
+    let damage = [
+        (0, 1),
+        (0, 6),
+        (1, 0),
+        (1, 4097),
+        (1, 5),
+        (2, 0),
+        (2, 1),
+        (4, 1_000_001),
+        (12, 0),
+        (13, 9),
+        (14, 4097),
+        (19, 0),
+        (20, 4),
+        (24, 1),
+        (31, 2),
+        (36, 2),
+    ];
+    for (place, number) in damage {
+        let mut list = planned();
+        list[place] = number;
+        refused::<1>(6, |answer| owner(&list, &[0; 3], answer));
+        refused::<2>(6, |answer| neighbour(&list, 0, 1, 1, answer));
+        refused::<2>(6, |answer| slab(&list, 1, 0, answer));
+        refused::<1>(6, |answer| slab_of(&list, 1, 0, answer));
+    }
+}
+
+#[test]
+fn seven_before_eight_before_nine() {
+    let list = planned();
+    for dimension in [0, 4, u32::MAX] {
+        refused::<0>(7, |answer| neighbour(&list, 4, dimension, 1, answer));
+        refused::<0>(7, |answer| slab(&list, dimension, 2, answer));
+        refused::<0>(7, |answer| slab_of(&list, dimension, 8, answer));
+    }
+    for number in [8, u32::MAX] {
+        refused::<0>(8, |answer| neighbour(&list, number, 3, 0, answer));
+        refused::<0>(8, |answer| slab(&list, 3, number, answer));
+        refused::<0>(8, |answer| slab_of(&list, 3, number, answer));
+        refused::<0>(8, |answer| owner(&list, &[0, number, 0], answer));
+    }
+    refused::<0>(8, |answer| owner(&list, &[0, 0], answer));
+    refused::<0>(8, |answer| owner(&list, &[0, 0, 0, 0], answer));
+    refused::<0>(8, |answer| owner(&list, &[], answer));
+    refused::<0>(9, |answer| owner(&list, &[1, 1, 1], answer));
+    refused::<2>(9, |answer| owner(&list, &[1, 1, 1], answer));
+    refused::<1>(9, |answer| neighbour(&list, 3, 3, 0, answer));
+    refused::<3>(9, |answer| neighbour(&list, 3, 3, 0, answer));
+    refused::<1>(9, |answer| slab(&list, 1, 1, answer));
+    refused::<3>(9, |answer| slab(&list, 1, 1, answer));
+    refused::<0>(9, |answer| slab_of(&list, 1, 7, answer));
+    refused::<2>(9, |answer| slab_of(&list, 1, 7, answer));
+}
+
+#[test]
+fn answers_of_the_first_example() {
+    let list = planned();
+    assert_eq!(
+        list[..20],
+        [3, 4, 8, 8, 8, 0, 0, 1, 1, 1, 0, 0, 2, 2, 2, 0, 0, 6, 0, 1]
+    );
+    let mut one = [77];
+    assert_eq!((owner(&list, &[1, 0, 0], &mut one), one), (0, [2]));
+    let mut two = [77; 2];
+    assert_eq!((neighbour(&list, 0, 2, 1, &mut two), two), (0, [1, 3]));
+    assert_eq!((slab(&list, 3, 1, &mut two), two), (0, [4, 8]));
+    assert_eq!((slab_of(&list, 3, 3, &mut one), one), (0, [0]));
+}
+
+#[test]
+fn an_uncut_dimension_has_no_neighbour() {
+    let mut list = [0; LENGTH];
+    assert_eq!(plan(5, 3, &[4, 9, 9], &[1; 3], &mut list), 0);
+    let mut two = [77; 2];
+    assert_eq!((neighbour(&list, 4, 1, 0, &mut two), two), (0, [0, 0]));
+}
