@@ -6,6 +6,7 @@
 pub mod chains;
 pub mod clock;
 pub mod jobs;
+pub mod linked;
 pub mod plan_list;
 pub mod planning;
 pub mod questions;

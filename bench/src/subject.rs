@@ -15,22 +15,13 @@ pub struct Subject {
     pub chains: fn(&[u32], &mut [u32], &mut [u32]) -> u32,
 }
 
-/// The rival: the paper's enumeration, the questions with the same checks, and the fastest chains.
+/// The rival: the paper's enumeration (Figure 2, one factor inside the other), the questions with the same checks, and the fastest chains.
 pub const RIVAL: Subject = Subject {
     name: "rival",
-    plan: planning::figure_2,
+    plan: planning::figure_2_nested,
     owner: questions::owner,
     neighbour: questions::neighbour,
     slab_elements: questions::slab_elements,
     slab_of: questions::slab_of,
     chains: chains::by_runs,
-};
-
-/// Rust in the planner's place while no other program is given: the search with remembered answers,
-/// chains tile by tile, and the rival's own questions, whose lines show how exact the table is.
-pub const STAND_IN: Subject = Subject {
-    name: "rust",
-    plan: planning::remembered,
-    chains: chains::by_counting,
-    ..RIVAL
 };
