@@ -13,12 +13,12 @@ use lib.Seq.{take-suc}
 use Rattle.numbers.specs.Products.{product}
 use Rattle.numbers.proofs.Products.{product-append}
 use Rattle.multipartition.specs.Lists.{allBelow}
+use Rattle.multipartition.proofs.Tests.{and-true-iff, allBelow-true-iff}
 use Rattle.layout.specs.Shaped.{Factors}
 
 -- both parts of a true `&&`
 pub both : (a b : Bool) → (a && b) ≡ true → (a ≡ true) × (b ≡ true)
-both true b e = (refl, e)
-both false b e = (e, let z : _≡_ {A = Bool} false true = e in cc)
+both a b = and-true-iff a b .0
 
 -- a number that is not 0 stands in the list
 pub lt-length : (xs : List ℕ) (k : ℕ) → 1 ≤ getD xs k 0 → k < length xs
@@ -42,16 +42,10 @@ unfolding allBelow
 all-add-one n test = rw add-one
 
 pub all-at : (n : ℕ) (test : ℕ → Bool) → allBelow n test ≡ true → (k : ℕ) → k < n → test k ≡ true
-unfolding allBelow
-all-at zero test e k h = absurd (omega arith)
-all-at (suc n) test e k h =
-    let l : k ≤ n = omega arith in
-    ⊎-elim (λ q. rw q (both (allBelow n test) (test n) e .1)) (λ l. all-at n test (both (allBelow n test) (test n) e .0) k l) (eq-or-lt-of-le l)
+all-at n test = allBelow-true-iff n test .0
 
 pub all-of : (n : ℕ) (test : ℕ → Bool) → ((k : ℕ) → k < n → test k ≡ true) → allBelow n test ≡ true
-unfolding allBelow
-all-of zero test h = refl
-all-of (suc n) test h = rw (all-of n test (λ k l. h k (omega arith)), h n (omega arith))
+all-of n test = allBelow-true-iff n test .1
 
 pub all-ext : (n : ℕ) (f g : ℕ → Bool) → ((k : ℕ) → k < n → f k ≡ g k) → allBelow n f ≡ allBelow n g
 unfolding allBelow

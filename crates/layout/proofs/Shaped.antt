@@ -13,6 +13,7 @@ use borrow.Author.Tests.{not-true, not-false, leb-true, ltb-true, eqb-true, le-l
 use Rattle.numbers.specs.Products.{product}
 use Rattle.multipartition.specs.Lists.{allBelow}
 use Rattle.multipartition.specs.Plans.{between, dimensionOk, entryAt, rowOk, inShape}
+use Rattle.multipartition.proofs.Plans.{between-true-iff}
 use Rattle.layout.specs.declared.Plan.{Plan}
 use Rattle.layout.specs.Plans.{layoutOf, rowsFrom}
 use Rattle.layout.specs.Shaped.{entryOf, rowFits, placeFits, Ranges, Factors, Shaped}
@@ -20,10 +21,10 @@ use Rattle.layout.proofs.Lists.{both, le-length, all-none, all-add-one,
 use Rattle.layout.proofs.Places.{entry-at}
 
 pub between-true : (low high n : ℕ) → between low high n ≡ true → (low ≤ n) × (n ≤ high)
-between-true low high n e = let t = both (leb low n) (leb n high) e in (leb-true low n (t .0), leb-true n high (t .1))
+between-true low high n = between-true-iff low high n .0
 
 pub between-of : (low high n : ℕ) → low ≤ n → n ≤ high → between low high n ≡ true
-between-of low high n l h = rw (le-leb low n l, le-leb n high h)
+between-of low high n l h = between-true-iff low high n .1 (l, h)
 
 -- ---- a dimension
 

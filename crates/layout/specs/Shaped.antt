@@ -28,12 +28,14 @@ pub record Factors (d : ℕ) (numbers : List ℕ) : Type 0 where
   pub low : (k : ℕ) → k < d → 1 ≤ getD numbers k 0
   pub high : (k : ℕ) → k < d → getD numbers k 0 ≤ 4096
 
+-- "d: 2 to 5. p: 1 to 4,096."
 pub record Ranges (d p : ℕ) : Type 0 where
   pub d-low : 2 ≤ d
   pub d-high : d ≤ 5
   pub p-low : 1 ≤ p
   pub p-high : p ≤ 4096
 
+-- what "in shape" says of the plan's own places
 pub record Shaped (plan : Plan) : Type 0 where
   pub d-low : 2 ≤ plan .d
   pub d-high : plan .d ≤ 5
