@@ -48,11 +48,11 @@ module _ (d : ℕ) (moduli matrix position : List ℕ) (h : Reduced d moduli mat
       (digits-lt (owner-front-below i (omega arith)) (mod-lt _ (h .modulus-low i m)))
 
   -- a coordinate more
-  pub owner-front-next : (i number sum : ℕ) → i < d
+  pub owner-front-next : (i number digit : ℕ) → i < d
       → number ≡ ownerFront d moduli matrix position i
-      → sum ≡ times (take d (drop (i * 5) matrix)) position
-      → number * getD moduli i 0 + sum % getD moduli i 0 ≡ ownerFront d moduli matrix position (i + 1)
-  owner-front-next i number sum l e f = rw (owner-front-add-one i l, e, f)
+      → digit ≡ times (take d (drop (i * 5) matrix)) position % getD moduli i 0
+      → number * getD moduli i 0 + digit ≡ ownerFront d moduli matrix position (i + 1)
+  owner-front-next i number digit l e f = rw (owner-front-add-one i l, e, f)
 
   pub owner-front-high : (i : ℕ) → i ≤ d → ownerFront d moduli matrix position i < 4096
   owner-front-high i l = omega (arith, owner-front-below i l, front-high d moduli matrix h i l)

@@ -11,7 +11,7 @@ ghost use Rattle.multipartition.specs.Neighbours.{turn, nextOwner};
 ghost use Rattle.multipartition.specs.Questions.{ownerAnswer, neighbourAnswer};
 ghost use Rattle.layout.specs.Plans.{rowsFrom, layoutOf};
 ghost use Rattle.layout.specs.Lent.{planOver, Lent};
-ghost use Rattle.questions.specs.Bounds.{Reduced, Small};
+ghost use Rattle.questions.specs.Bounds.{Reduced, Small, RowBounds};
 ghost use Rattle.questions.specs.Told.{toldOwner, toldNeighbour};
 
 pub enum Owner {
@@ -39,7 +39,7 @@ fn below_cuts<'a>(d: usize, cuts: &'a [u32], position: &'a [u32]) -> bool
 
 // Row i times the position.
 fn row_times<'a>(d: usize, i: usize, matrix: &'a [u32], position: &'a [u32]) -> u32
-    requires { ⌜ (i < 5) × (Small d (drop (i * 5) (now matrix))) × (Small d (now position)) × (length (now matrix) ≡ 25) × (length (now position) ≡ d) ⌝ }
+    requires { ⌜ RowBounds d i (now matrix) (now position) ⌝ }
     ensures { λ r. ⌜ r ≡ times (take d (drop (i * 5) (now (matrix .entry)))) (now (position .entry)) ⌝ }
 {
     let row = i * 5;
@@ -51,6 +51,14 @@ fn row_times<'a>(d: usize, i: usize, matrix: &'a [u32], position: &'a [u32]) -> 
     sum
 }
 
+// A row times a position, modulo the row's modulus.
+fn coordinate(sum: u32, m: u32) -> u32
+    requires { ⌜ 1 ≤ m ⌝ }
+    ensures { λ r. ⌜ r ≡ sum % m ⌝ }
+{
+    sum % m
+}
+
 // The owner's number, its coordinates taken one after the other.
 fn owner_number<'a>(d: usize, moduli: &'a [u32], matrix: &'a [u32], position: &'a [u32]) -> u32
     requires { ⌜ (Reduced d (now moduli) (now matrix)) × (Small d (now position)) × (length (now matrix) ≡ 25) × (length (now position) ≡ d) ⌝ }
@@ -59,7 +67,7 @@ fn owner_number<'a>(d: usize, moduli: &'a [u32], matrix: &'a [u32], position: &'
     let mut number: u32 = 0;
     for i in 0..d {
         let m = moduli[i];
-        number = number * m + row_times(d, i, matrix, position) % m;
+        number = number * m + coordinate(row_times(d, i, matrix, position), m);
     }
     number
 }
@@ -114,7 +122,7 @@ pub fn owner_of(plan: Plan, position: &[u32]) -> Owner
 }
 
 // A number below twice m, modulo m.
-fn reduced(m: u32, number: u32) -> u32
+fn modulo(m: u32, number: u32) -> u32
     requires { ⌜ number < m * 2 ⌝ }
     ensures { λ r. ⌜ r ≡ number % m ⌝ }
 {
@@ -125,14 +133,14 @@ fn reduced(m: u32, number: u32) -> u32
 }
 
 // A coordinate plus an entry (up) or minus it (down), modulo m.
-fn turned(up: bool, m: u32, coordinate: u32, entry: u32) -> u32
+fn turn(up: bool, m: u32, coordinate: u32, entry: u32) -> u32
     requires { ⌜ (m ≤ 4096) × (coordinate < m) × (entry < m) ⌝ }
     ensures { λ r. ⌜ r ≡ turn up m coordinate entry ⌝ }
 {
     if up {
-        return reduced(m, coordinate + entry);
+        return modulo(m, coordinate + entry);
     }
-    reduced(m, coordinate + (m - entry))
+    modulo(m, coordinate + (m - entry))
 }
 
 // The neighbour's number: the processor's coordinates from the last to the first, each turned and put at its place. The printer asks it of
@@ -156,7 +164,7 @@ pub fn neighbour_number<'a>(
         i = i - 1;
         let m = moduli[i];
         let at = i * 5 + k;
-        number = number + turned(up, m, rest % m, matrix[at]) * radix;
+        number = number + turn(up, m, rest % m, matrix[at]) * radix;
         radix = radix * m;
         rest = rest / m;
     }

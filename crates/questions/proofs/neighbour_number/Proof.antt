@@ -34,17 +34,17 @@ mul-at c = search needs
 add-at : tie.Need-add-at Inv-loop μ-loop
 add-at c = search needs
 
-rem-turned : tie.Need-rem-turned Inv-loop μ-loop
-rem-turned c = let s = c .before .before .before .before .before in s .pre .0 .modulus-low (c .before .before .loop .i - 1) (omega arith)
+rem-turn : tie.Need-rem-turn Inv-loop μ-loop
+rem-turn c = let s = c .before .before .before .before .before in s .pre .0 .modulus-low (c .before .before .loop .i - 1) (omega arith)
 
-mul-turned : tie.Need-mul-turned Inv-loop μ-loop
-mul-turned c = search needs
+mul-turn : tie.Need-mul-turn Inv-loop μ-loop
+mul-turn c = search needs
 
-shared-slice-read-turned : tie.Need-shared-slice-read-turned Inv-loop μ-loop
-shared-slice-read-turned c = search needs
+shared-slice-read-turn : tie.Need-shared-slice-read-turn Inv-loop μ-loop
+shared-slice-read-turn c = search needs
 
-turned-requires : tie.Need-turned-requires Inv-loop μ-loop
-turned-requires c κs = let s = c .before .before .before .before .before .before in
+turn-requires : tie.Need-turn-requires Inv-loop μ-loop
+turn-requires c κs = let s = c .before .before .before .before .before .before in
     let i = c .before .before .before .loop .i - 1 in
     let below : i < s .args .d = omega arith in (
       modulus-high _ _ _ (s .pre .0) i below,
@@ -53,25 +53,25 @@ turned-requires c κs = let s = c .before .before .before .before .before .befor
     )
 
 -- the walk with the coordinate that the turn puts in front
-abbrev Next : tie.After-turned Inv-loop μ-loop → Type 0
+abbrev Next : tie.After-turn Inv-loop μ-loop → Type 0
 Next c =
     let s = c .before .before .before .before .before .before .before in
     let l = c .before .before .before .before .loop in
     let m : ℕ = getD (s .args .moduli .now) (l .i - 1) 0 in
     Walked (s .args .d) (s .args .moduli .now) (s .args .matrix .now) (s .args .k) (s .args .up) (s .args .processor) (l .i - 1)
-    (l .number + c .turned .result * l .radix)
+    (l .number + c .turn .result * l .radix)
     (l .radix * m)
     (l .rest / m)
 
-next : (c : tie.After-turned Inv-loop μ-loop) → Next c
+next : (c : tie.After-turn Inv-loop μ-loop) → Next c
 next c =
     let s = c .before .before .before .before .before .before .before in
-    walk-next _ _ _ (s .pre .0) _ _ _ _ _ _ _ _ (c .before .before .before .before .loop .inv .1) (omega arith) (omega arith) (s .pre .2) (c .turned .ensures)
+    walk-next _ _ _ (s .pre .0) _ _ _ _ _ _ _ _ (c .before .before .before .before .loop .inv .1) (omega arith) (omega arith) (s .pre .2) (c .turn .ensures)
 
-number-high : (c : tie.After-turned Inv-loop μ-loop) → c .before .before .before .before .loop .number + c .turned .result * c .before .before .before .before .loop .radix < 4096
+number-high : (c : tie.After-turn Inv-loop μ-loop) → c .before .before .before .before .loop .number + c .turn .result * c .before .before .before .before .loop .radix < 4096
 number-high c = walk-number-high _ _ _ (c .before .before .before .before .before .before .before .pre .0) _ _ _ _ _ _ _ (next c)
 
-radix-high : (c : tie.After-turned Inv-loop μ-loop)
+radix-high : (c : tie.After-turn Inv-loop μ-loop)
     → c .before .before .before .before .loop .radix * getD (c .before .before .before .before .before .before .before .args .moduli .now) (c .before .before .before .before .loop .i - 1) 0 ≤ 4096
 radix-high c = walk-radix-high _ _ _ (c .before .before .before .before .before .before .before .pre .0) _ _ _ _ _ _ _ (next c)
 
@@ -108,10 +108,10 @@ neighbour-number-spec =
     shared-slice-read-m
     mul-at
     add-at
-    rem-turned
-    mul-turned
-    shared-slice-read-turned
-    turned-requires
+    rem-turn
+    mul-turn
+    shared-slice-read-turn
+    turn-requires
     mul-number
     add-number
     mul-radix

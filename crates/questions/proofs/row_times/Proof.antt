@@ -41,13 +41,13 @@ mul-sum-3 : tie.Need-mul-sum-3 Inv-loop μ-loop
 mul-sum-3 c = let s = c .before .before .before .before in
     let a = s .args in
     let j = c .before .before .before .loop .j in
-    omega (arith, term-high (a .d) (a .i) (a .matrix .now) (a .position .now) (s .pre .1) (s .pre .2) j (omega arith))
+    omega (arith, term-high (a .d) (a .i) (a .matrix .now) (a .position .now) (s .pre .row-small) (s .pre .position-small) j (omega arith))
 
 add-sum : tie.Need-add-sum Inv-loop μ-loop
 add-sum c = let s = c .before .before .before .before in
     let a = s .args in
     let j = c .before .before .before .loop .j in
-    omega (arith, term-high (a .d) (a .i) (a .matrix .now) (a .position .now) (s .pre .1) (s .pre .2) j (omega arith), times-high (a .d) (a .i) (a .matrix .now) (a .position .now) (s .pre .1) (s .pre .2) j (omega arith))
+    omega (arith, term-high (a .d) (a .i) (a .matrix .now) (a .position .now) (s .pre .row-small) (s .pre .position-small) j (omega arith), times-high (a .d) (a .i) (a .matrix .now) (a .position .now) (s .pre .row-small) (s .pre .position-small) j (omega arith))
 
 add-j : tie.Need-add-j Inv-loop μ-loop
 add-j c = search needs

@@ -1,10 +1,10 @@
--- `questions::reduced` meets its contract. Assumes nothing.
+-- `questions::modulo` meets its contract. Assumes nothing.
 use mathlib.Core.Path.{_∙_, sym}
 use Prim.Native.Nat.{_-_}
 use native.Mathlib.Omega.{arith}
 use native.Mathlib.Nat.{mod-eq-of-lt, mod-eq-sub-mod}
-use Rattle.questions.proofs.reduced.Statement.{statement}
-use Rattle.questions.proofs.reduced.Tie as tie
+use Rattle.questions.proofs.modulo.Statement.{statement}
+use Rattle.questions.proofs.modulo.Tie as tie
 
 returns : tie.Need-returns
 returns c = sym (mod-eq-of-lt (c .if1 .taken))
@@ -12,5 +12,5 @@ returns c = sym (mod-eq-of-lt (c .if1 .taken))
 returns-2 : tie.Need-returns-2
 returns-2 c = sym (mod-eq-sub-mod (c .if1 .left) ∙ mod-eq-of-lt (omega arith))
 
-pub reduced-spec : {M : Type 1} → statement M
-reduced-spec = tie.close (tie.spec returns returns-2)
+pub modulo-spec : {M : Type 1} → statement M
+modulo-spec = tie.close (tie.spec returns returns-2)
