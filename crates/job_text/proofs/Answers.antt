@@ -4,7 +4,7 @@ use mathlib.Core.List.{List}
 use Prim.Native.Nat.{ℕ, _-_, _≤_}
 use native.Mathlib.Omega.{arith}
 use lib.ListN.{length, take, replicate, length-append, length-replicate}
-use Rattle.multipartition.specs.Answers.{Answer, answered, refused}
+use Rattle.multipartition.specs.Answers.{answered, refused}
 use Rattle.job_text.specs.Readable.{mostNumbers, Finds}
 use Rattle.job_text.specs.Told.{toldBy, padded, jobLineOf, Reads}
 use Rattle.job_text.specs.declared.Line.{Line}

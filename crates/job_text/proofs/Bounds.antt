@@ -1,8 +1,8 @@
 -- Numbers that are all at most a bound.
 use mathlib.Core.List.{List, [], _∷_, _++_}
-use Prim.Native.Nat.{ℕ, zero, suc, _≤_, _<_}
+use Prim.Native.Nat.{ℕ, zero, suc, _≤_}
 use native.Mathlib.Omega.{arith}
-use lib.ListN.{length, getD}
+use lib.ListN.{getD}
 use Rattle.job_text.specs.Readable.{AllAtMost}
 
 pub all-append : (bound : ℕ) (ns ms : List ℕ) → AllAtMost bound ns → AllAtMost bound ms → AllAtMost bound (ns ++ ms)

@@ -1,6 +1,7 @@
 -- Document 01's example: what is printed for its job is, byte for byte, what the paper shows.
 use mathlib.Core.Path.{_≡_, refl}
-use mathlib.Core.List.{[], _∷_, _++_}
+use mathlib.Core.List.{List, [], _∷_, _++_}
+use Prim.Native.Nat.{ℕ}
 use Rattle.numerals.specs.Words.{bytesOf}
 use Rattle.numerals.specs.Decimal.{decimal, decimalWithin}
 use Rattle.numbers.specs.Gcd.{gcd}
@@ -14,8 +15,10 @@ use Rattle.multipartition.specs.Neighbours.{columnOf, turn, turned, nextOwner, 
 use Rattle.multipartition.specs.Jobs.{firstOutside, planWith, planAnswer}
 use Rattle.plan_text.specs.PlanText.{joined, processors, upLine, planText, answerText}
 
-pub example-printed : answerText (planAnswer 4 3 (8 ∷ 8 ∷ 8 ∷ []) (1 ∷ 1 ∷ 1 ∷ []))
-    ≡ bytesOf "plan 4 3\n"
+-- the ten lines
+abbrev pub exampleText : List ℕ
+exampleText =
+    bytesOf "plan 4 3\n"
     ++ bytesOf "cuts 2 2 2\n"
     ++ bytesOf "cost 6\n"
     ++ bytesOf "mod 1 2 2\n"
@@ -25,5 +28,7 @@ pub example-printed : answerText (planAnswer 4 3 (8 ∷ 8 ∷ 8 ∷ []) (1 ∷ 1
     ++ bytesOf "up 1 2 3 0 1\n"
     ++ bytesOf "up 2 3 2 1 0\n"
     ++ bytesOf "up 3 1 0 3 2\n"
+
+pub example-printed : answerText (planAnswer 4 3 (8 ∷ 8 ∷ 8 ∷ []) (1 ∷ 1 ∷ 1 ∷ [])) ≡ exampleText
 unfolding decimal decimalWithin gcd same allBelow listOf startingWith those isEven fitting notLater precedes preferred chosen cheapest moduliOf remainder finish finishedRows rowsOf remaindersOf matrixOf numberFrom digitsOf columnOf turn turned nextOwner neighbourAt firstOutside planWith planAnswer joined processors upLine planText answerText
 example-printed = refl

@@ -1,8 +1,7 @@
 -- How long a printed plan is: no number of it but the cost has more than four digits.
-use mathlib.Core.Path.{_≡_, refl, ap, _∙_}
+use mathlib.Core.Path.{_≡_, refl, _∙_}
 use mathlib.Core.Bool.{Bool, true, false}
-use mathlib.Core.List.{List, [], _∷_, _++_}
-use mathlib.Core.Logic.{⊎-elim}
+use mathlib.Core.List.{List, _∷_}
 use Prim.Native.Nat.{ℕ, zero, suc, _+_, _*_, _^_, _≤_, _<_}
 use native.Mathlib.Omega.{arith}
 use lib.Dec.{eqb}
@@ -14,7 +13,6 @@ use Rattle.numerals.specs.Decimal.{decimal}
 use Rattle.numerals.specs.Lines.{lineOf}
 use Rattle.numerals.proofs.Decimal.{length-decimal}
 use Rattle.numerals.proofs.Lines.{length-line}
-use Rattle.numbers.specs.Products.{product}
 use Rattle.multipartition.specs.Lists.{listOf}
 use Rattle.multipartition.specs.Neighbours.{nextOwner}
 use Rattle.multipartition.proofs.Chains.{length-listOf, getD-listOf}

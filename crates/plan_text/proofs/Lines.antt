@@ -1,14 +1,13 @@
 -- The lines of a printed plan: a line of the neighbours processor by processor, and the lines of the neighbours by the cut.
-use mathlib.Core.Path.{_≡_, refl, sym, ap, ap₂, _∙_}
-use mathlib.Core.Bool.{Bool, true, false, cond}
+use mathlib.Core.Path.{_≡_, refl, ap, ap₂, _∙_}
+use mathlib.Core.Bool.{true, false}
 use mathlib.Core.List.{List, [], _∷_, _++_, map}
 use mathlib.Core.Option.{Option, none, some}
 use Prim.Native.Nat.{ℕ, zero, suc, _+_, _-_, _≤_, _<_}
 use native.Mathlib.Nat.{zero-add}
 use native.Mathlib.Numerals.{add-one}
 use native.Mathlib.Omega.{arith}
-use lib.Dec.{eqb}
-use lib.ListN.{length, getD, drop}
+use lib.ListN.{getD, drop}
 use borrow.Author.Tests.{eq-eqb, ne-eqb}
 use Rattle.numerals.specs.Words.{bytesOf}
 use Rattle.numerals.specs.Decimal.{decimal}
@@ -17,7 +16,6 @@ use Rattle.numerals.proofs.Lines.{lineFront, front-suc, front-all, separator-be
 use Rattle.multipartition.specs.Lists.{listOf}
 use Rattle.multipartition.specs.Plans.{Layout, inShape}
 use Rattle.multipartition.specs.Neighbours.{nextOwner, neighbourAt}
-use Rattle.multipartition.specs.Grids.{neighboursUp}
 use Rattle.multipartition.proofs.Chains.{length-listOf, getD-listOf}
 use Rattle.plan_text.specs.PlanText.{joined, processors, orNone, upLine, planText, refusedText, answerText, printedPlan}
 

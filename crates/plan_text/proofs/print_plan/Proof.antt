@@ -1,6 +1,5 @@
 -- `plan_text::print_plan` meets its contract: the definition's test is the shape check.
-use mathlib.Core.Path.{_≡_, sym, _∙_}
-use mathlib.Core.Bool.{Bool, true, false}
+use mathlib.Core.Path.{sym, _∙_}
 use borrow.Author.Needs.{needs}
 use Rattle.numerals.proofs.Output.{written-as}
 use Rattle.layout.specs.Plans.{layoutOf}

@@ -1,7 +1,6 @@
 -- `plan_text::put_rows` meets its contract. The invariant: the first i lines are written.
 use mathlib.Core.Path.{_≡_, sym, ap}
 use Prim.Native.Nat.{_≤_, _-_}
-use native.Mathlib.Numerals.{add-one}
 use native.Mathlib.Omega.{arith}
 use borrow.Author.Needs.{needs}
 use Rattle.numerals.specs.Output.{Written}

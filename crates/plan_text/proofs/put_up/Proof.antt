@@ -1,5 +1,5 @@
 -- `plan_text::put_up` meets its contract: the dimension's number, then `none` or the processors, by the cut.
-use mathlib.Core.Path.{_≡_, sym, ap, _∙_}
+use mathlib.Core.Path.{sym, ap, _∙_}
 use native.Mathlib.Numerals.{add-one}
 use borrow.Author.Needs.{needs}
 use Rattle.numerals.specs.Decimal.{decimal}
