@@ -1,0 +1,169 @@
+-- The program's two lists are long enough: what is read settles what is printed, and all of it is printed.
+use mathlib.Core.Path.{_≡_, refl, sym, ap, _∙_, subst}
+use mathlib.Core.Bool.{Bool, true, false, cond}
+use mathlib.Core.List.{List, [], _∷_}
+use mathlib.Core.Logic.{inl, inr, ⊎-elim}
+use mathlib.Core.Option.{Option, none, some}
+use Prim.Native.Nat.{ℕ, suc, _+_, _*_, _^_, _≤_, _<_}
+use native.Mathlib.Nat.{mul-le-mul}
+use native.Mathlib.Omega.{arith}
+use lib.ListN.{length, take, drop, getD, length-append, length-take, length-drop, List·getD-eq-default}
+use lib.Seq.{getD-drop}
+use Rattle.numerals.proofs.Decimal.{length-decimal, lt-or-le}
+use Rattle.numerals.proofs.Output.{written-front}
+use Rattle.multipartition.specs.Answers.{Answer, answered, refused, Check, checked}
+use Rattle.multipartition.specs.Cuts.{costOf, cheapest}
+use Rattle.multipartition.specs.Plans.{Layout, between, inShape}
+use Rattle.multipartition.specs.Jobs.{firstOutside, jobChecks, planWith, planAnswer}
+use Rattle.multipartition.proofs.Jobs.{PlanFor, plan-answered, plan-in-shape}
+use Rattle.multipartition.proofs.Minimal.{cut-le}
+use Rattle.layout.specs.Plans.{layoutOf, planOf}
+use Rattle.layout.specs.Sized.{Sized}
+use Rattle.layout.proofs.Plans.{layout-of-plan}
+use Rattle.layout.proofs.Shaped.{shaped}
+use Rattle.job_text.specs.Readable.{largest, Place, Finds}
+use Rattle.job_text.proofs.Bounds.{all-at}
+use Rattle.job_text.proofs.Finds.{finds-unique}
+use Rattle.job_text.proofs.Front.{longestLine, finds-front}
+use Rattle.plan_text.specs.PlanText.{planText, refusedText, answerText}
+use Rattle.plan_text.proofs.Lengths.{longestPlan, length-plan-text}
+use Rattle.plan.specs.Prints.{jobAnswer, programAnswer, Prints, Answers}
+use Rattle.plan.proofs.Planned.{plan-sized}
+
+-- ---- the input
+
+-- there is one text that is printed for an input
+pub prints-unique : (input a b : List ℕ) → Prints input a → Prints input b → a ≡ b
+prints-unique input a b h k =
+    h .prints
+    ∙ ap (λ (r : Answer (List ℕ)). answerText (programAnswer r)) (finds-unique input (h .read) (k .read) (h .finds) (k .finds))
+    ∙ sym (k .prints)
+
+-- more bytes than the longest line has settle it
+pub prints-front : (input bytes : List ℕ) (n : ℕ) → longestLine < n → Prints (take n input) bytes → Prints input bytes
+prints-front input bytes n h p = record { read = p .read; finds = finds-front input n h (p .read) (p .finds); prints = p .prints }
+
+-- ---- the output: a refusal
+
+length-refused : (number place : ℕ) → number < 100 → place < 1000 → length (refusedText number place) ≤ 15
+length-refused number place h k =
+    let n = length-decimal 1 number h in
+    let p = length-decimal 2 place k in
+    simp length-append (omega arith)
+
+place-le : (text : List ℕ) (k : ℕ) → Place text k → k ≤ length text + 1
+place-le text k (inl a) = let within = a .0 .0 in omega arith
+place-le text k (inr a) = let e = a .1 in omega arith
+
+first-outside-le : (k : ℕ) (extents : List ℕ) → firstOutside k extents ≤ k + length extents
+unfolding firstOutside
+first-outside-le k [] = omega arith
+first-outside-le k (n ∷ extents) = go (between 1 1000000 n) (first-outside-le (suc k) extents)
+  where
+    go : (t : Bool) → firstOutside (suc k) extents ≤ suc k + length extents → cond t (firstOutside (suc k) extents) k ≤ k + suc (length extents)
+    go true h = omega arith
+    go false h = omega arith
+
+-- a refusal with a number and place of few digits
+abbrev Short : Answer Layout → Type 0
+Short (answered plan) = Unit {0}
+Short (refused number place) = (number < 100) × (place < 1000)
+
+abbrev AllShort : List Check → Type 0
+AllShort [] = Unit {0}
+AllShort (c ∷ checks) = (c .number < 100) × (c .place < 1000) × AllShort checks
+
+short-checked : (checks : List Check) (answer : Answer Layout) → AllShort checks → Short answer → Short (checked checks answer)
+short-checked [] answer hs h = h
+short-checked (c ∷ checks) answer hs h = go (c .fails) (short-checked checks answer (hs .2) h)
+  where
+    go : (fails : Bool) → Short (checked checks answer) → Short (cond fails (refused (c .number) (c .place)) (checked checks answer))
+    go true later = (hs .0, hs .1)
+    go false later = later
+
+short-plan : (p d : ℕ) (extents weights : List ℕ) → length extents < 999 → Short (planAnswer p d extents weights)
+unfolding planAnswer planWith
+short-plan p d extents weights few =
+    let outside = first-outside-le 1 extents in
+    short-checked (jobChecks p d extents weights) (planWith p extents weights (cheapest p extents weights))
+    (omega arith, omega arith, (omega arith, omega arith, (omega arith, omega arith, (omega arith, omega arith, tt))))
+    (go (cheapest p extents weights))
+  where
+    go : (o : Option (List ℕ)) → Short (planWith p extents weights o)
+    go none = (omega arith, omega arith)
+    go (some cuts) = tt
+
+-- ---- the output: a plan
+
+cost-le : (c w : ℕ) (weights cuts : List ℕ) → ((i : ℕ) → getD weights i 0 ≤ w) → ((i : ℕ) → getD cuts i 0 ≤ c) → costOf weights cuts ≤ length cuts * (c * w)
+cost-le c w [] cuts h k = omega arith
+cost-le c w (x ∷ weights) [] h k = omega arith
+cost-le c w (x ∷ weights) (b ∷ cuts) h k =
+    let first : b * x ≤ c * w = mul-le-mul (k 0) (h 0) in
+    let later = cost-le c w weights cuts (λ i. h (suc i)) (λ i. k (suc i)) in
+    omega arith
+
+length-plan : (p d : ℕ) (extents weights : List ℕ) (plan : Layout) → ((i : ℕ) → getD weights i 0 ≤ largest)
+    → planAnswer p d extents weights ≡ answered plan → length (planText plan) ≤ longestPlan
+unfolding planOf
+length-plan p d extents weights plan small e =
+    subst (λ (l : Layout). length (planText l) ≤ longestPlan) whole (length-plan-text (planOf plan) (shaped (planOf plan) in-shape) cost-high)
+  where
+    made : PlanFor p d extents weights plan
+    made = plan-answered p d extents weights plan e
+
+    sized : Sized plan
+    sized = plan-sized p d extents weights plan e
+
+    whole : layoutOf (planOf plan) ≡ plan
+    whole = layout-of-plan plan sized
+
+    in-shape : inShape (layoutOf (planOf plan)) ≡ true
+    in-shape = ap inShape whole ∙ plan-in-shape p d extents weights plan e
+
+    cut-high : (i : ℕ) → getD (plan .cuts) i 0 ≤ 4096
+    cut-high i =
+        ⊎-elim
+        (λ l. cut-le p extents weights (plan .cuts) (made .cuts-are) (made .passed .range .p-low) (made .passed .range .p-high) i l)
+        (λ l. omega (arith, List·getD-eq-default (plan .cuts) 0 l))
+        (lt-or-le i (length (plan .cuts)))
+
+    cost-high : plan .cost < 10 ^ 20
+    cost-high =
+        omega
+        (arith, ap (λ (l : Layout). l .cost) (made .plan-is), cost-le 4096 largest weights (plan .cuts) small cut-high, sized .cuts-length, sized .few)
+
+length-job : (p d : ℕ) (extents weights : List ℕ) → length extents < 999 → ((i : ℕ) → getD weights i 0 ≤ largest)
+    → length (answerText (planAnswer p d extents weights)) ≤ longestPlan
+unfolding answerText
+length-job p d extents weights few small = go (planAnswer p d extents weights) refl (short-plan p d extents weights few)
+  where
+    go : (a : Answer Layout) → planAnswer p d extents weights ≡ a → Short a → length (answerText a) ≤ longestPlan
+    go (answered plan) e h = length-plan p d extents weights plan small e
+    go (refused number place) e h = omega (arith, length-refused number place (h .0) (h .1))
+
+-- for an input of 256 bytes at most
+pub prints-length : (input bytes : List ℕ) → length input ≤ 256 → Prints input bytes → length bytes ≤ longestPlan
+unfolding answerText programAnswer jobAnswer
+prints-length input bytes few p = rw (p .prints) (go (p .read) (p .finds))
+  where
+    go : (read : Answer (List ℕ)) → Finds input read → length (answerText (programAnswer read)) ≤ longestPlan
+    go (answered numbers) f =
+        let d = getD numbers 1 0 in
+        let rest : List ℕ = drop 2 numbers in
+        length-job (getD numbers 0 0) d (take d rest) (drop d rest)
+        (omega (arith, length-take d rest, length-drop 2 numbers, f .0 .few))
+        (λ i. omega (arith, getD-drop d rest i 0, getD-drop 2 numbers (d + i) 0, all-at largest numbers (f .0 .small) (2 + (d + i))))
+    go (refused number place) f =
+        let within = place-le input place (f .2) in
+        let ten = f .1 in
+        omega (arith, length-refused number place (omega arith) (omega arith))
+
+-- WHAT THE PROGRAM WRITES is what is printed for the whole input, though it reads 256 bytes of it and has `longestPlan` places
+pub program-prints : (input before after : List ℕ) (next : ℕ) → longestPlan ≤ length before → Answers (take 256 input) before after next
+    → Prints input (take next after)
+program-prints input before after next room a =
+    let few : length (take 256 input) ≤ 256 = omega (arith, length-take 256 input) in
+    let fits = prints-length (take 256 input) (a .bytes) few (a .right) in
+    prints-front input (take next after) 256 (omega arith)
+    (subst (Prints (take 256 input)) (sym (written-front (a .written) (omega arith))) (a .right))
