@@ -5,7 +5,9 @@ use Prim.Native.Nat.{ℕ, suc, _+_, _-_, _*_, _≤_, _<_}
 use native.Mathlib.Omega.{arith}
 use lib.ListN.{length, getD, take, drop, replicate, length-append}
 use lib.Seq.{take-take, take-at, drop-at, take-append-le, take-append-add, drop-drop, length-take-le}
-use Rattle.multipartition.specs.Plans.{Layout}
+use Rattle.multipartition.specs.Plans.{Layout, layoutWith}
+use Rattle.multipartition.proofs.Moduli.{length-moduli}
+use Rattle.multipartition.proofs.Matrix.{length-matrix, length-matrix-row}
 use Rattle.layout.specs.Plans.{rowsFrom, layoutOf, five, flat, planOf}
 use Rattle.layout.specs.Sized.{Sized}
 
@@ -60,3 +62,16 @@ layout-of-plan layout s =
       take-five (layout .d) (layout .moduli) (s .few) (s .moduli-length),
       matrix-of-flat (layout .d) (layout .matrix) (s .few) (s .matrix-length) (s .row-length),
     )
+
+-- the planner's layout, with a weight and a cut for each extent
+pub layout-with-sized : (p : ℕ) (extents weights cuts : List ℕ) → length extents ≤ 5 → length weights ≡ length extents
+    → length cuts ≡ length extents → Sized (layoutWith p extents weights cuts)
+layout-with-sized p extents weights cuts few many same-many = record {
+  few = few;
+  extents-length = refl;
+  weights-length = many;
+  cuts-length = same-many;
+  moduli-length = length-moduli p cuts ∙ same-many;
+  matrix-length = length-matrix p cuts ∙ same-many;
+  row-length = λ i l. length-matrix-row p cuts i (omega (arith, same-many)) ∙ same-many;
+}

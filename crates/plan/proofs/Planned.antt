@@ -5,7 +5,6 @@ use mathlib.Core.List.{List, [], _∷_}
 use mathlib.Core.Option.{Option, none, some}
 use Prim.Native.Nat.{ℕ, _≤_}
 use native.Mathlib.Omega.{arith}
-use lib.ListN.{length}
 use borrow.Author.Tests.{ne-eqb}
 use Rattle.multipartition.specs.Answers.{Answer, answered, refused, Check, checked}
 use Rattle.multipartition.specs.Cuts.{cheapest}
@@ -13,11 +12,9 @@ use Rattle.multipartition.specs.Plans.{Layout}
 use Rattle.multipartition.specs.Jobs.{jobChecks, planWith, planAnswer}
 use Rattle.multipartition.proofs.Cheapest.{cheapest-fits}
 use Rattle.multipartition.proofs.Fitting.{fits-length}
-use Rattle.multipartition.proofs.Moduli.{length-moduli}
-use Rattle.multipartition.proofs.Matrix.{length-matrix, length-matrix-row}
 use Rattle.multipartition.proofs.Jobs.{plan-answered, plan-in-shape}
 use Rattle.layout.specs.Sized.{Sized}
-use Rattle.layout.proofs.Plans.{layout-of-plan}
+use Rattle.layout.proofs.Plans.{layout-of-plan, layout-with-sized}
 use Rattle.planner.specs.Planned.{plannedOf}
 use Rattle.plan_text.specs.PlanText.{answerText, printedPlan}
 use Rattle.plan_text.proofs.Lines.{printed-in-shape}
@@ -56,17 +53,9 @@ pub plan-sized : (p d : ℕ) (extents weights : List ℕ) (plan : Layout) → pl
 plan-sized p d extents weights plan e =
     let made = plan-answered p d extents weights plan e in
     let cuts = plan .cuts in
-    let long : length cuts ≡ length extents = fits-length extents cuts (cheapest-fits p extents weights cuts (made .cuts-are)) in
     subst⁻¹ Sized (made .plan-is)
-    (record {
-      few = made .passed .range .d-high;
-      extents-length = refl;
-      weights-length = made .passed .weights-many ∙ sym (made .passed .extents-many);
-      cuts-length = long;
-      moduli-length = length-moduli p cuts ∙ long;
-      matrix-length = length-matrix p cuts ∙ long;
-      row-length = λ i l. length-matrix-row p cuts i (omega (arith, long)) ∙ long;
-    })
+    (layout-with-sized p extents weights cuts (made .passed .range .d-high) (made .passed .weights-many ∙ sym (made .passed .extents-many))
+    (fits-length extents cuts (cheapest-fits p extents weights cuts (made .cuts-are))))
 
 -- ---- so the texts agree
 

@@ -26,9 +26,7 @@ use Rattle.multipartition.proofs.Faces.{faces-differ}
 use Rattle.multipartition.proofs.Fitting.{fits-length}
 use Rattle.multipartition.proofs.GridSums.{total, total-ext, held-total}
 use Rattle.multipartition.proofs.Jobs.{PlanFor, plan-answered, plan-in-shape, plan-of-passed}
-use Rattle.multipartition.proofs.Matrix.{length-matrix, length-matrix-row}
 use Rattle.multipartition.proofs.Minimal.{cheapest-minimal}
-use Rattle.multipartition.proofs.Moduli.{length-moduli}
 use Rattle.multipartition.proofs.Neighbours.{neighbour-owns}
 use Rattle.multipartition.proofs.Owners.{owner-below, even-owners}
 use Rattle.multipartition.proofs.Plans.{between-true-iff, in-shape-moduli-positive}
@@ -36,8 +34,7 @@ use Rattle.multipartition.proofs.Rivals.{balanced-iff-cheapest, cheapest-no-dea
 use Rattle.multipartition.proofs.Tiles.{test-of-inside, one-step-on-inside}
 use Rattle.layout.specs.declared.Plan.{Plan}
 use Rattle.layout.specs.Plans.{layoutOf, planOf}
-use Rattle.layout.specs.Sized.{Sized}
-use Rattle.layout.proofs.Plans.{layout-of-plan}
+use Rattle.layout.proofs.Plans.{layout-of-plan, layout-with-sized}
 use Rattle.planner.specs.Planned.{plannedOf}
 use Rattle.rivals.specs.Demand3.{cutsOf, processorIn, ownerIn, Ours, Demand3}
 
@@ -133,19 +130,6 @@ module _ (p d : ℕ) (extents weights : List ℕ) (plan : Plan) (e : planAnswer 
     one-neighbour = neighbour-is;
   }
 
--- a plan by value can hold the planner's layout
-sized : (p : ℕ) (extents weights cuts : List ℕ) → length extents ≤ 5 → length weights ≡ length extents → length cuts ≡ length extents
-    → Sized (layoutWith p extents weights cuts)
-sized p extents weights cuts few many same-many = record {
-  few = few;
-  extents-length = refl;
-  weights-length = many;
-  cuts-length = same-many;
-  moduli-length = length-moduli p cuts ∙ same-many;
-  matrix-length = length-matrix p cuts ∙ same-many;
-  row-length = λ i l. length-matrix-row p cuts i (subst⁻¹ (λ (n : ℕ). i < n) same-many l) ∙ same-many;
-}
-
 -- DEMAND 3, for all jobs in the stated ranges and all rivals.
 pub demand-3 : (p d : ℕ) (extents weights : List ℕ) → Passed p d extents weights → Demand3 p extents weights (plannedOf (planAnswer p d extents weights))
 unfolding plannedOf planWith
@@ -169,7 +153,7 @@ demand-3 p d extents weights job = go (cheapest p extents weights) refl
         let many : length cuts ≡ length extents = fits-length extents cuts (cheapest-fits p extents weights cuts e) in
         let back : layoutOf (planOf (layoutWith p extents weights cuts)) ≡ layoutWith p extents weights cuts =
         layout-of-plan (layoutWith p extents weights cuts)
-        (sized p extents weights cuts (job .range .d-high) (job .weights-many ∙ sym (job .extents-many)) many) in
+        (layout-with-sized p extents weights cuts (job .range .d-high) (job .weights-many ∙ sym (job .extents-many)) many) in
         subst⁻¹ (λ (a : Answer Layout). Demand3 p extents weights (plannedOf a)) answers
         (record {
           accepts = ((λ z. balanced-iff-cheapest p extents (job .range .p-low) weights .1 (cuts, e)), λ rival. refl);
