@@ -41,14 +41,10 @@ length-one-more ns v = length-append ns (v ∷ [])
 
 -- a further byte: a digit, a space, a newline
 digit-reached : (ns : List ℕ) (v b : ℕ) (t : List ℕ) → Reached (inside ns v) t → isDigit b ≡ true → Reached (afterDigit ns v (b - 48)) (t ++ (b ∷ []))
-digit-reached ns v b t r e =
-    by-test P (eqb v 0) astray further (λ z. tt) (λ z. by-test P (leb (v * 10 + (b - 48)) largest) (inside ns (v * 10 + (b - 48))) astray (goes-on z) (λ l. tt))
+digit-reached ns v b t r e = by-test P _ _ _ (λ z. tt) (λ z. by-test P _ _ _ (goes-on z) (λ l. tt))
   where
     P : State → Type 0
     P s = Reached s (t ++ (b ∷ []))
-
-    further : State
-    further = cond (leb (v * 10 + (b - 48)) largest) (inside ns (v * 10 + (b - 48))) astray
 
     goes-on : eqb v 0 ≡ false → leb (v * 10 + (b - 48)) largest ≡ true → P (inside ns (v * 10 + (b - 48)))
     goes-on z l =
@@ -66,7 +62,7 @@ digit-reached ns v b t r e =
 
 space-reached : (ns : List ℕ) (v b : ℕ) (t : List ℕ) → Reached (inside ns v) t → eqb b 32 ≡ true → Reached (afterSpace ns v) (t ++ (b ∷ []))
 space-reached ns v b t r e =
-    by-test (λ s. Reached s (t ++ (b ∷ []))) (ltb (length ns + 1) mostNumbers) (between (ns ++ (v ∷ []))) astray goes-on (λ e. tt)
+    by-test (λ s. Reached s (t ++ (b ∷ []))) _ _ _ goes-on (λ e. tt)
   where
     goes-on : ltb (length ns + 1) mostNumbers ≡ true → Reached (between (ns ++ (v ∷ []))) (t ++ (b ∷ []))
     goes-on h =
@@ -81,7 +77,7 @@ space-reached ns v b t r e =
 
 newline-reached : (ns : List ℕ) (v b : ℕ) (t : List ℕ) → Reached (inside ns v) t → eqb b 10 ≡ true → Reached (afterNewline ns v) (t ++ (b ∷ []))
 newline-reached ns v b t r e =
-    by-test (λ s. Reached s (t ++ (b ∷ []))) (ltb 0 (length ns)) (finished (ns ++ (v ∷ []))) astray goes-on (λ e. tt)
+    by-test (λ s. Reached s (t ++ (b ∷ []))) _ _ _ goes-on (λ e. tt)
   where
     goes-on : ltb 0 (length ns) ≡ true → Reached (finished (ns ++ (v ∷ []))) (t ++ (b ∷ []))
     goes-on h =
@@ -96,7 +92,7 @@ newline-reached ns v b t r e =
 
 -- a byte more
 pub step-reached : (s : State) (b : ℕ) (t : List ℕ) → Reached s t → Reached (step s b) (t ++ (b ∷ []))
-step-reached (between ns) b t r = by-test (λ s. Reached s (t ++ (b ∷ []))) (isDigit b) (inside ns (b - 48)) astray begun (λ e. tt)
+step-reached (between ns) b t r = by-test (λ s. Reached s (t ++ (b ∷ []))) _ _ _ begun (λ e. tt)
   where
     begun : isDigit b ≡ true → Reached (inside ns (b - 48)) (t ++ (b ∷ []))
     begun e =
@@ -110,18 +106,11 @@ step-reached (between ns) b t r = by-test (λ s. Reached s (t ++ (b ∷ []))) (i
               ∙ ap (λ (u : List ℕ). spaced ns ++ u) (sym (decimal-small (b - 48) (omega arith))),
         )
 step-reached (inside ns v) b t r =
-    by-test P (isDigit b) (afterDigit ns v (b - 48)) other (digit-reached ns v b t r)
-    (λ e. by-test P (eqb b 32) (afterSpace ns v) last (space-reached ns v b t r)
-    (λ e. by-test P (eqb b 10) (afterNewline ns v) astray (newline-reached ns v b t r) (λ e. tt)))
+    by-test P _ _ _ (digit-reached ns v b t r)
+    (λ e. by-test P _ _ _ (space-reached ns v b t r) (λ e. by-test P _ _ _ (newline-reached ns v b t r) (λ e. tt)))
   where
     P : State → Type 0
     P s = Reached s (t ++ (b ∷ []))
-
-    last : State
-    last = cond (eqb b 10) (afterNewline ns v) astray
-
-    other : State
-    other = cond (eqb b 32) (afterSpace ns v) last
 step-reached (finished ns) b t r = tt
 step-reached astray b t r = tt
 
