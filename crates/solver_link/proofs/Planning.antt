@@ -1,9 +1,9 @@
 -- Planning over the link: a refusal has a number from 1 on, so that 0 tells a plan from a refusal; the list of a planned job is read as its plan.
 use mathlib.Core.Path.{_≡_, refl, sym, ap, subst, subst⁻¹, _∙_}
 use mathlib.Core.Bool.{Bool, true, false, not, cond, _||_}
-use mathlib.Core.List.{List, []}
+use mathlib.Core.List.{List}
 use mathlib.Core.Option.{Option, none, some}
-use Prim.Native.Nat.{ℕ, _+_, _*_, _≤_, _<_}
+use Prim.Native.Nat.{ℕ, _+_, _*_, _≤_}
 use native.Mathlib.Omega.{arith}
 use lib.Dec.{eqb, lit≤}
 use lib.ListN.{length}
@@ -27,7 +27,7 @@ use Rattle.solver_link.proofs.Plans.{plan-in-list, arrays-of-layout}
 
 -- a refusal has a number from 1 on
 abbrev Numbered : {A : Type 0} → Answer A → Type 0
-Numbered (answered a) = 0 ≤ 0
+Numbered (answered a) = Unit {0}
 Numbered (refused number place) = 1 ≤ number
 
 numbered-check : {A : Type 0} (fails : Bool) (number place : ℕ) (later : Answer A) → 1 ≤ number → Numbered later
@@ -45,7 +45,7 @@ module _ (planned : Planned) (lent : List ℕ) where
   unfolding plannedOf
   linked-number (answered layout) e h code sum = absurd (h (ap (λ (q : Planned). q .number) e))
   linked-number (refused number place) e h code sum =
-      record { returned = sum ∙ ap (λ (q : Planned). q .number + 4294967296 * q .place) e; list = refl }
+      record { returned = sum ∙ ap (λ (q : Planned). q .number + 4294967296 * q .place) e; held = refl }
 
   linked-list : (asked : Answer Layout) → Numbered asked → planned ≡ plannedOf asked → planned .number ≡ 0
       → (code : ℕ) (after : List ℕ) → Linked (into (length lent) (listOfPlan (planned .plan))) lent code after → Linked (listed asked) lent code after
@@ -72,7 +72,7 @@ module _ (p d : ℕ) (extents weights : List ℕ) where
     where
       made : (o : Option (List ℕ)) → Numbered (planWith p extents weights o)
       made none = lit≤ tt
-      made (some cuts) = lit≤ tt
+      made (some cuts) = tt
 
   -- the lists of a planned layout have d numbers each
   sized-plan : (layout : Layout) → planAnswer p d extents weights ≡ answered layout → Sized layout

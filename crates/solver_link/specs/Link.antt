@@ -1,5 +1,5 @@
 -- The link for a solver in C (document 01, "Tiles, slabs, chains"): plans and answers as lists of 32-bit numbers.
-use mathlib.Core.Bool.{Bool, not}
+use mathlib.Core.Bool.{not}
 use mathlib.Core.List.{List, [], _∷_, _++_}
 use mathlib.Core.Option.{Option, none, some}
 use mathlib.Core.Path.{_≡_}
@@ -8,7 +8,6 @@ use lib.Dec.{eqb}
 use lib.ListN.{length, getD, take, drop}
 use Rattle.multipartition.specs.Answers.{Answer, answered, refused, Check, checked}
 use Rattle.multipartition.specs.Jobs.{planAnswer}
-use Rattle.multipartition.specs.Plans.{Layout}
 use Rattle.multipartition.specs.Questions.{lengthCheck, ownerAnswer, neighbourAnswer, slabAnswer, slabOfAnswer, chainsAnswer}
 use Rattle.layout.specs.declared.Plan.{Plan}
 use Rattle.layout.specs.Plans.{layoutOf, planOf}
@@ -57,15 +56,15 @@ abbrev pub codeOf : {A : Type 0} → Answer A → ℕ
 codeOf (answered a) = 0
 codeOf (refused number place) = number + 4294967296 * place
 
--- what the answer list holds afterwards: "lent lists keep their contents" where the call is refused
-abbrev pub heldBy : Answer (List ℕ) → List ℕ → List ℕ
-heldBy (answered numbers) lent = numbers
+-- what an answer list, or two, holds afterwards: "lent lists keep their contents" where the call is refused
+abbrev pub heldBy : {A : Type 0} → Answer A → A → A
+heldBy (answered lists) lent = lists
 heldBy (refused number place) lent = lent
 
--- a call that answers so: what it returns, and what the lent answer list holds afterwards
-pub record Linked (answer : Answer (List ℕ)) (lent : List ℕ) (code : ℕ) (after : List ℕ) : Type 0 where
+-- a call that answers so: what it returns, and what the lent answer lists hold afterwards
+pub record Linked {A : Type 0} (answer : Answer A) (lent : A) (code : ℕ) (after : A) : Type 0 where
   pub returned : code ≡ codeOf answer
-  pub list : after ≡ heldBy answer lent
+  pub held : after ≡ heldBy answer lent
 
 -- ---- the calls
 

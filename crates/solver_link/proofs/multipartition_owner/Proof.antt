@@ -1,6 +1,6 @@
 -- `solver_link::multipartition_owner` meets its contract. Assumes nothing.
 use borrow.Author.Needs.{needs}
-use mathlib.Core.Path.{_≡_, sym, ap, _∙_}
+use mathlib.Core.Path.{sym, ap, _∙_}
 use Rattle.questions.specs.Told.{toldOwner}
 use Rattle.solver_link.specs.Link.{ownerLink}
 use Rattle.solver_link.proofs.Answers.{linked-list-length, linked-answered, linked-refused}
