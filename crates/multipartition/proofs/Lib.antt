@@ -23,3 +23,4 @@ pub mod Faces
 pub mod Plans
 pub mod Jobs
 pub mod EveryRival
+pub mod BothWays

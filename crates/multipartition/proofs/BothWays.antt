@@ -1,0 +1,284 @@
+-- The questions agree both ways: tile numbers and positions, steps and steps back, elements and slabs, owners and chains, said of what the calls
+-- answer about any plan.
+use mathlib.Core.Path.{_≡_, refl, sym, ap, _∙_, subst, subst⁻¹}
+use mathlib.Core.Logic.{_↔_}
+use mathlib.Core.Bool.{Bool, true, false, not, cond, _&&_}
+use mathlib.Core.List.{List, [], _∷_, List·Memᴰ}
+use mathlib.Core.Option.{Option, some}
+use Prim.Native.Nat.{ℕ, suc, _-_, _≤_, _<_}
+use native.Mathlib.Omega.{arith}
+use borrow.Author.Tests.{ltb-true, lt-ltb, not-false}
+use lib.Dec.{leb, ltb, eqb}
+use lib.ListN.{getD}
+use Rattle.numbers.specs.Products.{product}
+use Rattle.multipartition.specs.Lists.{allBelow}
+use Rattle.multipartition.specs.Answers.{Answer, answered, refused}
+use Rattle.multipartition.specs.Owners.{ownerAt}
+use Rattle.multipartition.specs.Tiles.{Inside, isInside, tileNumber, positionOf, oneStepOn}
+use Rattle.multipartition.specs.Slabs.{slabStart, slabEnd, slabOf}
+use Rattle.multipartition.specs.Chains.{headsOf, nextsOf}
+use Rattle.multipartition.specs.Plans.{Layout, tilesOf, between, dimensionOk, rowOk, inShape}
+use Rattle.multipartition.specs.Questions.{extentOf, cutOf, tileOwner, ownerAnswer, numberAnswer, stepAnswer, positionAnswer, slabAnswer, slabOfAnswer, chainsAnswer}
+use Rattle.multipartition.proofs.Tests.{and-true-iff, allBelow-true-iff}
+use Rattle.multipartition.proofs.Plans.{between-true-iff}
+use Rattle.multipartition.proofs.Tiles.{inside-of-test, test-of-inside, number-low, number-high, position-inside, position-of-number, number-of-position, one-step-on-inside, step-back}
+use Rattle.multipartition.proofs.Slabs.{slabs-in-order, slab-start-last, slab-of-holds, slab-of-iff}
+use Rattle.multipartition.proofs.Chains.{Chain, Rising, tilesOwned, chain-of, chain-rises, on-chain-iff}
+
+module _ {A : Type 0} where
+  -- a call that is answered has passed its first check
+  answered-passed : (fails : Bool) (number place : ℕ) (later : Answer A) (a : A) → cond fails (refused number place) later ≡ answered a
+      → (fails ≡ false) × (later ≡ answered a)
+  answered-passed true number place later a e = let clash : _≡_ {A = ℕ} 0 1 = cc in absurd (omega arith)
+  answered-passed false number place later a e = (refl, e)
+
+  -- what it takes to pass a check
+  answered-iff : (ok : Bool) (number place : ℕ) (later : Answer A) (a : A)
+      → (cond (not ok) (refused number place) later ≡ answered a) ↔ ((ok ≡ true) × (later ≡ answered a))
+  answered-iff ok number place later a = (
+    λ e. let passed = answered-passed (not ok) number place later a e in (not-false ok (passed .0), passed .1),
+    λ h. rw (h .0) (h .1),
+  )
+
+  answered-injective : (a b : A) → answered a ≡ answered b → a ≡ b
+  answered-injective a b e = cc
+
+module _ (plan : Layout) where
+  -- ---- tile numbers and positions
+
+  number-answered : (x : List ℕ) (t : ℕ) → (numberAnswer plan x ≡ answered t) ↔ ((inShape plan ≡ true) × Inside (plan .cuts) x × (tileNumber (plan .cuts) x ≡ t))
+  unfolding numberAnswer
+  number-answered x t = (there, back)
+    where
+      later : Answer ℕ
+      later = answered (tileNumber (plan .cuts) x)
+
+      there : numberAnswer plan x ≡ answered t → (inShape plan ≡ true) × Inside (plan .cuts) x × (tileNumber (plan .cuts) x ≡ t)
+      there e =
+          let shape = answered-iff (inShape plan) 6 0 (cond (not (isInside (plan .cuts) x)) (refused 8 0) later) t .0 e in
+          let inside = answered-iff (isInside (plan .cuts) x) 8 0 later t .0 (shape .1) in
+          (shape .0, inside-of-test (plan .cuts) x (inside .0), answered-injective (tileNumber (plan .cuts) x) t (inside .1))
+
+      back : (inShape plan ≡ true) × Inside (plan .cuts) x × (tileNumber (plan .cuts) x ≡ t) → numberAnswer plan x ≡ answered t
+      back h = rw (h .0, test-of-inside (plan .cuts) x (h .1)) (ap answered (h .2))
+
+  position-answered : (t : ℕ) (x : List ℕ) → (positionAnswer plan t ≡ answered x) ↔ ((inShape plan ≡ true) × ((1 ≤ t) × (t ≤ tilesOf plan)) × (positionOf (plan .cuts) t ≡ x))
+  unfolding positionAnswer
+  position-answered t x = (there, back)
+    where
+      later : Answer (List ℕ)
+      later = answered (positionOf (plan .cuts) t)
+
+      there : positionAnswer plan t ≡ answered x → (inShape plan ≡ true) × ((1 ≤ t) × (t ≤ tilesOf plan)) × (positionOf (plan .cuts) t ≡ x)
+      there e =
+          let shape = answered-iff (inShape plan) 6 0 (cond (not (between 1 (tilesOf plan) t)) (refused 8 0) later) x .0 e in
+          let range = answered-iff (between 1 (tilesOf plan) t) 8 0 later x .0 (shape .1) in
+          (shape .0, between-true-iff 1 (tilesOf plan) t .0 (range .0), answered-injective (positionOf (plan .cuts) t) x (range .1))
+
+      back : (inShape plan ≡ true) × ((1 ≤ t) × (t ≤ tilesOf plan)) × (positionOf (plan .cuts) t ≡ x) → positionAnswer plan t ≡ answered x
+      back h = rw (h .0, between-true-iff 1 (tilesOf plan) t .1 (h .1)) (ap answered (h .2))
+
+  -- t is the number of the tile at x exactly if x is the position of tile t
+  pub number-iff-position : (x : List ℕ) (t : ℕ) → (numberAnswer plan x ≡ answered t) ↔ (positionAnswer plan t ≡ answered x)
+  number-iff-position x t = (there, back)
+    where
+      there : numberAnswer plan x ≡ answered t → positionAnswer plan t ≡ answered x
+      there e =
+          let h = number-answered x t .0 e in
+          subst (λ (n : ℕ). positionAnswer plan n ≡ answered x) (h .2)
+          (position-answered (tileNumber (plan .cuts) x) x .1
+          (h .0, (number-low (plan .cuts) x, number-high (plan .cuts) x (h .1)), position-of-number (plan .cuts) x (h .1)))
+
+      back : positionAnswer plan t ≡ answered x → numberAnswer plan x ≡ answered t
+      back e =
+          let h = position-answered t x .0 e in
+          subst (λ (y : List ℕ). numberAnswer plan y ≡ answered t) (h .2)
+          (number-answered (positionOf (plan .cuts) t) t .1
+          (h .0, position-inside (plan .cuts) t (h .1 .0) (h .1 .1), number-of-position (plan .cuts) t (h .1 .0) (h .1 .1)))
+
+  -- ---- steps
+
+  step-answered : (x y : List ℕ) (k : ℕ) (up : Bool) → (stepAnswer plan x k up ≡ answered (some y))
+      ↔ ((inShape plan ≡ true) × (between 1 (plan .d) k ≡ true) × Inside (plan .cuts) x × (oneStepOn (plan .cuts) (k - 1) up x ≡ some y))
+  unfolding stepAnswer
+  step-answered x y k up = (there, back)
+    where
+      later : Answer (Option (List ℕ))
+      later = answered (oneStepOn (plan .cuts) (k - 1) up x)
+
+      after : Answer (Option (List ℕ))
+      after = cond (not (isInside (plan .cuts) x)) (refused 8 0) later
+
+      there : stepAnswer plan x k up ≡ answered (some y)
+          → (inShape plan ≡ true) × (between 1 (plan .d) k ≡ true) × Inside (plan .cuts) x × (oneStepOn (plan .cuts) (k - 1) up x ≡ some y)
+      there e =
+          let shape = answered-iff (inShape plan) 6 0 (cond (not (between 1 (plan .d) k)) (refused 7 0) after) (some y) .0 e in
+          let dimension = answered-iff (between 1 (plan .d) k) 7 0 after (some y) .0 (shape .1) in
+          let inside = answered-iff (isInside (plan .cuts) x) 8 0 later (some y) .0 (dimension .1) in
+          (shape .0, dimension .0, inside-of-test (plan .cuts) x (inside .0), answered-injective (oneStepOn (plan .cuts) (k - 1) up x) (some y) (inside .1))
+
+      back : (inShape plan ≡ true) × (between 1 (plan .d) k ≡ true) × Inside (plan .cuts) x × (oneStepOn (plan .cuts) (k - 1) up x ≡ some y)
+          → stepAnswer plan x k up ≡ answered (some y)
+      back h = rw (h .0, h .1, test-of-inside (plan .cuts) x (h .2)) (ap answered (h .3))
+
+  -- a step that stays inside comes back by the step in the other direction
+  pub step-comes-back : (x y : List ℕ) (k : ℕ) (up : Bool) → stepAnswer plan x k up ≡ answered (some y) → stepAnswer plan y k (not up) ≡ answered (some x)
+  step-comes-back x y k up e =
+      let h = step-answered x y k up .0 e in
+      step-answered y x k (not up) .1
+      (h .0, h .1, one-step-on-inside (plan .cuts) x y (k - 1) up (h .2) (h .3), step-back (plan .cuts) x y (k - 1) up (h .2) (h .3))
+
+  -- ---- slabs and elements
+
+  -- a cut of a plan in shape is from 1 to its extent
+  cut-in-shape : (k : ℕ) → inShape plan ≡ true → between 1 (plan .d) k ≡ true → (1 ≤ cutOf plan k) × (cutOf plan k ≤ extentOf plan k)
+  unfolding inShape
+  cut-in-shape k shape dimension =
+      let range = between-true-iff 1 (plan .d) k .0 dimension in
+      let all = and-true-iff (D && P) C .0 (and-true-iff (D && P && C) T .0 (and-true-iff (D && P && C && T) R .0 (and-true-iff (D && P && C && T && R) M .0 shape .0) .0) .0) .1 in
+      let here = allBelow-true-iff (plan .d) (dimensionOk (plan .extents) (plan .cuts)) .0 all (k - 1) (omega (arith, range .0, range .1)) in
+      let both = and-true-iff (between 1 1000000 (extentOf plan k) && between 1 (extentOf plan k) (cutOf plan k)) (leb (cutOf plan k) 4096) .0 here .0 in
+      between-true-iff 1 (extentOf plan k) (cutOf plan k) .0 (and-true-iff (between 1 1000000 (extentOf plan k)) (between 1 (extentOf plan k) (cutOf plan k)) .0 both .1)
+    where
+      D : Bool
+      D = between 2 5 (plan .d)
+
+      P : Bool
+      P = between 1 4096 (plan .p)
+
+      C : Bool
+      C = allBelow (plan .d) (dimensionOk (plan .extents) (plan .cuts))
+
+      T : Bool
+      T = leb (tilesOf plan) 16777216
+
+      R : Bool
+      R = allBelow (plan .d) (rowOk (plan .d) (plan .moduli) (plan .matrix))
+
+      M : Bool
+      M = eqb (product (plan .moduli)) (plan .p)
+
+  slab-answered : (k s : ℕ) (ends : ℕ × ℕ) → (slabAnswer plan k s ≡ answered ends)
+      ↔ ((inShape plan ≡ true) × (between 1 (plan .d) k ≡ true) × (s < cutOf plan k)
+      × ((slabStart (extentOf plan k) (cutOf plan k) s, slabEnd (extentOf plan k) (cutOf plan k) s) ≡ ends))
+  unfolding slabAnswer
+  slab-answered k s ends = (there, back)
+    where
+      both : ℕ × ℕ
+      both = (slabStart (extentOf plan k) (cutOf plan k) s, slabEnd (extentOf plan k) (cutOf plan k) s)
+
+      after : Answer (ℕ × ℕ)
+      after = cond (not (ltb s (cutOf plan k))) (refused 8 0) (answered both)
+
+      there : slabAnswer plan k s ≡ answered ends → (inShape plan ≡ true) × (between 1 (plan .d) k ≡ true) × (s < cutOf plan k) × (both ≡ ends)
+      there e =
+          let shape = answered-iff (inShape plan) 6 0 (cond (not (between 1 (plan .d) k)) (refused 7 0) after) ends .0 e in
+          let dimension = answered-iff (between 1 (plan .d) k) 7 0 after ends .0 (shape .1) in
+          let range = answered-iff (ltb s (cutOf plan k)) 8 0 (answered both) ends .0 (dimension .1) in
+          (shape .0, dimension .0, ltb-true s (cutOf plan k) (range .0), answered-injective both ends (range .1))
+
+      back : (inShape plan ≡ true) × (between 1 (plan .d) k ≡ true) × (s < cutOf plan k) × (both ≡ ends) → slabAnswer plan k s ≡ answered ends
+      back h = rw (h .0, h .1, lt-ltb s (cutOf plan k) (h .2)) (ap answered (h .3))
+
+  slab-of-answered : (k element s : ℕ) → (slabOfAnswer plan k element ≡ answered s)
+      ↔ ((inShape plan ≡ true) × (between 1 (plan .d) k ≡ true) × (element < extentOf plan k) × (slabOf (extentOf plan k) (cutOf plan k) element ≡ s))
+  unfolding slabOfAnswer
+  slab-of-answered k element s = (there, back)
+    where
+      held : ℕ
+      held = slabOf (extentOf plan k) (cutOf plan k) element
+
+      after : Answer ℕ
+      after = cond (not (ltb element (extentOf plan k))) (refused 8 0) (answered held)
+
+      there : slabOfAnswer plan k element ≡ answered s → (inShape plan ≡ true) × (between 1 (plan .d) k ≡ true) × (element < extentOf plan k) × (held ≡ s)
+      there e =
+          let shape = answered-iff (inShape plan) 6 0 (cond (not (between 1 (plan .d) k)) (refused 7 0) after) s .0 e in
+          let dimension = answered-iff (between 1 (plan .d) k) 7 0 after s .0 (shape .1) in
+          let range = answered-iff (ltb element (extentOf plan k)) 8 0 (answered held) s .0 (dimension .1) in
+          (shape .0, dimension .0, ltb-true element (extentOf plan k) (range .0), answered-injective held s (range .1))
+
+      back : (inShape plan ≡ true) × (between 1 (plan .d) k ≡ true) × (element < extentOf plan k) × (held ≡ s) → slabOfAnswer plan k element ≡ answered s
+      back h = rw (h .0, h .1, lt-ltb element (extentOf plan k) (h .2)) (ap answered (h .3))
+
+  -- an element's slab is s exactly if the element lies between the ends of slab s
+  pub slab-iff-elements : (k element s : ℕ) → (slabOfAnswer plan k element ≡ answered s)
+      ↔ ((ends : ℕ × ℕ) × (slabAnswer plan k s ≡ answered ends) × (ends .0 ≤ element) × (element < ends .1))
+  slab-iff-elements k element s = (there, back)
+    where
+      there : slabOfAnswer plan k element ≡ answered s → (ends : ℕ × ℕ) × (slabAnswer plan k s ≡ answered ends) × (ends .0 ≤ element) × (element < ends .1)
+      there e =
+          let h = slab-of-answered k element s .0 e in
+          let cut = cut-in-shape k (h .0) (h .1) in
+          let holds = slab-of-holds (extentOf plan k) (cutOf plan k) (cut .0) (cut .1) element (h .2) in
+          let below : s < cutOf plan k = subst (λ (n : ℕ). n < cutOf plan k) (h .3) (holds .0) in
+          let inside = slab-of-iff (extentOf plan k) (cutOf plan k) (cut .0) (cut .1) s element below (h .2) .0 (h .3) in (
+            (slabStart (extentOf plan k) (cutOf plan k) s, slabEnd (extentOf plan k) (cutOf plan k) s),
+            slab-answered k s (slabStart (extentOf plan k) (cutOf plan k) s, slabEnd (extentOf plan k) (cutOf plan k) s) .1 (h .0, h .1, below, refl),
+            inside .0,
+            inside .1,
+          )
+
+      back : (ends : ℕ × ℕ) × (slabAnswer plan k s ≡ answered ends) × (ends .0 ≤ element) × (element < ends .1) → slabOfAnswer plan k element ≡ answered s
+      back (ends, e, low, high) =
+          let h = slab-answered k s ends .0 e in
+          let cut = cut-in-shape k (h .0) (h .1) in
+          let start : slabStart (extentOf plan k) (cutOf plan k) s ≤ element = subst⁻¹ (λ (n : ℕ). n ≤ element) (ap (λ (b : ℕ × ℕ). b .0) (h .3)) low in
+          let end : element < slabEnd (extentOf plan k) (cutOf plan k) s = subst⁻¹ (λ (n : ℕ). element < n) (ap (λ (b : ℕ × ℕ). b .1) (h .3)) high in
+          let last = slabs-in-order (extentOf plan k) (cutOf plan k) (cut .0) (cut .1) (suc s) (cutOf plan k) (h .2) (omega arith) in
+          let within : element < extentOf plan k = omega (arith, slab-start-last (extentOf plan k) (cutOf plan k) (cut .0), last, end) in
+          slab-of-answered k element s .1
+          (h .0, h .1, within, slab-of-iff (extentOf plan k) (cutOf plan k) (cut .0) (cut .1) s element (h .2) within .1 (start, end))
+
+  -- ---- owners and chains
+
+  owner-answered : (x : List ℕ) (q : ℕ) → inShape plan ≡ true → Inside (plan .cuts) x
+      → (ownerAnswer plan x ≡ answered q) ↔ (ownerAt (plan .moduli) (plan .matrix) x ≡ q)
+  unfolding ownerAnswer
+  owner-answered x q shape inside = (
+    λ e. answered-injective (ownerAt (plan .moduli) (plan .matrix) x) q (rw (shape, test-of-inside (plan .cuts) x inside) at e),
+    λ e. rw (shape, test-of-inside (plan .cuts) x inside) (ap answered e),
+  )
+
+  chains-answered : (h n : ℕ) (heads nexts : List ℕ) → chainsAnswer plan h n ≡ answered (heads, nexts)
+      → (headsOf (tileOwner plan) (tilesOf plan) (plan .p) ≡ heads) × (nextsOf (tileOwner plan) (tilesOf plan) ≡ nexts)
+  unfolding chainsAnswer
+  chains-answered h n heads nexts e =
+      let shape = answered-iff (inShape plan) 6 0 (cond (not (eqb h (plan .p))) (refused 9 0) after) (heads, nexts) .0 e in
+      let first = answered-iff (eqb h (plan .p)) 9 0 after (heads, nexts) .0 (shape .1) in
+      let second = answered-iff (eqb n (tilesOf plan)) 9 0 (answered both) (heads, nexts) .0 (first .1) in
+      let same : both ≡ (heads, nexts) = answered-injective both (heads, nexts) (second .1) in
+      (ap (λ (b : List ℕ × List ℕ). b .0) same, ap (λ (b : List ℕ × List ℕ). b .1) same)
+    where
+      both : List ℕ × List ℕ
+      both = (headsOf (tileOwner plan) (tilesOf plan) (plan .p), nextsOf (tileOwner plan) (tilesOf plan))
+
+      after : Answer (List ℕ × List ℕ)
+      after = cond (not (eqb n (tilesOf plan))) (refused 9 0) (answered both)
+
+  -- from a processor's place in the first list the second leads through some tiles, rising, and ends; a tile is one of them exactly if the
+  -- processor owns it
+  pub chain-iff-owner : (h n : ℕ) (heads nexts : List ℕ) → chainsAnswer plan h n ≡ answered (heads, nexts) → (q : ℕ) → q < plan .p
+      → (tiles : List ℕ) × Chain nexts (getD heads q 0) tiles × Rising 1 tiles
+      × ((t : ℕ) (x : List ℕ) → positionAnswer plan t ≡ answered x → List·Memᴰ t tiles ↔ (ownerAnswer plan x ≡ answered q))
+  chain-iff-owner h n heads nexts e q l = (
+    tilesOwned (tileOwner plan) q 1 (tilesOf plan),
+    subst (λ (next : List ℕ). Chain next (getD heads q 0) (tilesOwned (tileOwner plan) q 1 (tilesOf plan))) (lists .1)
+        (subst (λ (head : List ℕ). Chain (nextsOf (tileOwner plan) (tilesOf plan)) (getD head q 0) (tilesOwned (tileOwner plan) q 1 (tilesOf plan))) (lists .0)
+        (chain-of (tileOwner plan) q (tilesOf plan) (plan .p) l)),
+    chain-rises (tileOwner plan) q (tilesOf plan),
+    on-chain,
+  )
+    where
+      lists : (headsOf (tileOwner plan) (tilesOf plan) (plan .p) ≡ heads) × (nextsOf (tileOwner plan) (tilesOf plan) ≡ nexts)
+      lists = chains-answered h n heads nexts e
+
+      on-chain : (t : ℕ) (x : List ℕ) → positionAnswer plan t ≡ answered x
+          → List·Memᴰ t (tilesOwned (tileOwner plan) q 1 (tilesOf plan)) ↔ (ownerAnswer plan x ≡ answered q)
+      on-chain t x f =
+          let place = position-answered t x .0 f in
+          let inside : Inside (plan .cuts) x = subst (λ (y : List ℕ). Inside (plan .cuts) y) (place .2) (position-inside (plan .cuts) t (place .1 .0) (place .1 .1)) in
+          let owner : tileOwner plan t ≡ ownerAt (plan .moduli) (plan .matrix) x = ap (ownerAt (plan .moduli) (plan .matrix)) (place .2) in
+          let chain = on-chain-iff (tileOwner plan) q (tilesOf plan) t (place .1 .0) (place .1 .1) in
+          let answer = owner-answered x q (place .0) inside in
+          (λ m. answer .1 (sym owner ∙ chain .0 m), λ a. chain .1 (owner ∙ answer .0 a))
