@@ -1,0 +1,118 @@
+-- The walk over a block of a level: its blocks of the next level are visited from the highest down, each from the coordinates of its highest tile.
+use mathlib.Core.Path.{_≡_}
+use mathlib.Core.List.{List}
+use Prim.Native.Nat.{ℕ, suc, _+_, _-_, _*_, _<_, _≤_}
+use native.Mathlib.Nat.{le-refl, one-mul, mul-le-mul, mul-le-mul-right}
+use native.Mathlib.Numerals.{add-one}
+use native.Mathlib.Omega.{arith}
+use lib.ListN.{getD}
+use Rattle.multipartition.specs.Plans.{tilesOf}
+use Rattle.layout.specs.declared.Plan.{Plan}
+use Rattle.layout.specs.Plans.{layoutOf}
+use Rattle.layout.specs.Shaped.{Shaped}
+use Rattle.chains.specs.Stages.{Visited}
+use Rattle.chains.specs.Walks.{Holds, Below, Lowered, blockSize, blockTop, Run}
+use Rattle.chains.proofs.Stages.{stage-onward, stage-afresh}
+use Rattle.chains.proofs.Blocks.{tiles-high, size-positive, size-next, size-last, below-of-holds, lowered-holds}
+
+-- the number of the tile at the top of the part of a block in which i blocks of the next level are
+abbrev partTop : Plan → ℕ → ℕ → ℕ → ℕ
+partTop plan level block i = (block * getD (plan .cuts) level 0 + i) * blockSize plan (suc level)
+
+-- i blocks of the next level are still to be visited
+pub record BlockStage (plan : Plan) (level block i : ℕ) (at lent heads nexts : List ℕ) : Type 0 where
+  pub few : i ≤ getD (plan .cuts) level 0
+  pub below : Below plan at
+  pub visited : Visited plan (partTop plan level block i) lent heads nexts
+  pub holds : 1 ≤ i → Holds plan (partTop plan level block i) at
+
+module _ (plan : Plan) (s : Shaped plan) (level : ℕ) (l : level < plan .d) (block : ℕ) where
+  pub block-start : (c heads nexts : List ℕ) → Holds plan (blockTop plan level block) c → Visited plan (blockTop plan level block) nexts heads nexts
+      → BlockStage plan level block (getD (plan .cuts) level 0) c nexts heads nexts
+  block-start c heads nexts h v =
+      let top : blockTop plan level block ≡ partTop plan level block (getD (plan .cuts) level 0) = rw (size-next plan s level l) (omega arith) in
+      record {
+        few = omega arith;
+        below = below-of-holds plan s (blockTop plan level block) c h;
+        visited = rw top at v;
+        holds = λ low. rw top at h;
+      }
+
+  pub block-end : (i : ℕ) (at lent heads nexts : List ℕ) → BlockStage plan level block i at lent heads nexts → i ≤ 0
+      → Visited plan (block * blockSize plan level) lent heads nexts
+  block-end i at lent heads nexts b none =
+      let zero-left : i ≡ 0 = omega arith in
+      let end : partTop plan level block i ≡ block * blockSize plan level = rw (zero-left, size-next plan s level l) (omega arith) in
+      rw end at (b .visited)
+
+  module _ (i : ℕ) (at lent heads nexts : List ℕ) (b : BlockStage plan level block i at lent heads nexts) (low : 1 ≤ i) where
+    inner-top : partTop plan level block i ≡ blockTop plan (level + 1) (block * getD (plan .cuts) level 0 + (i - 1))
+    inner-top =
+        let whole : block * getD (plan .cuts) level 0 + i ≡ suc (block * getD (plan .cuts) level 0 + (i - 1)) = omega arith in
+        rw (add-one level, whole)
+
+    -- the highest of the blocks may be visited
+    pub inner-ready : (blockTop plan (level + 1) (block * getD (plan .cuts) level 0 + (i - 1)) ≤ tilesOf (layoutOf plan))
+        × Holds plan (blockTop plan (level + 1) (block * getD (plan .cuts) level 0 + (i - 1))) at
+    inner-ready = rw (← inner-top) (b .visited .within, b .holds low)
+
+    pub inner-visited : Visited plan (blockTop plan (level + 1) (block * getD (plan .cuts) level 0 + (i - 1))) nexts heads nexts
+    inner-visited = rw (← inner-top) (stage-afresh _ _ _ (partTop plan level block i) lent heads nexts (b .visited))
+
+    -- its number fits
+    pub inner-small : block * getD (plan .cuts) level 0 + (i - 1) < 16777216
+    inner-small =
+        let whole : block * getD (plan .cuts) level 0 + i ≡ suc (block * getD (plan .cuts) level 0 + (i - 1)) = omega arith in
+        omega (
+          arith,
+          whole,
+          b .visited .within,
+          tiles-high plan s,
+          mul-le-mul (le-refl (block * getD (plan .cuts) level 0 + i)) (size-positive plan s (suc level)),
+        )
+
+    -- and leaves the block so
+    pub block-step : (next heads' nexts' : List ℕ)
+        → Visited plan ((block * getD (plan .cuts) level 0 + (i - 1)) * blockSize plan (level + 1)) nexts heads' nexts' → Lowered plan level at next
+        → BlockStage plan level block (i - 1) next lent heads' nexts'
+    block-step next heads' nexts' v r =
+        let fewer : block * getD (plan .cuts) level 0 + (i - 1) ≤ block * getD (plan .cuts) level 0 + i = omega arith in
+        record {
+          few = omega (arith, b .few);
+          below = r .below;
+          visited =
+              stage-onward _ _ _ (partTop plan level block i) (partTop plan level block (i - 1)) lent heads nexts heads' nexts'
+              (mul-le-mul-right (blockSize plan (suc level)) fewer) (b .visited) (rw (add-one level) at v);
+          holds = λ more.
+              let two : i ≡ suc (suc (i - 2)) = omega arith in
+              let one : suc (i - 2) ≡ i - 1 = omega arith in
+              rw one at
+              (lowered-holds plan s level block (i - 2) at next l (omega (arith, b .few)) (rw (← two) (b .visited .within)) (rw (← two) (b .holds low)) r);
+        }
+
+-- ---- the last level
+
+module _ (plan : Plan) (s : Shaped plan) where
+  -- a block of level d is a tile
+  pub tile-top : (block : ℕ) → blockTop plan (plan .d) block ≡ block + 1
+  tile-top block = rw (size-last plan s) (omega arith)
+
+  pub tile-end : (block : ℕ) → block + 1 - 1 ≡ block * blockSize plan (plan .d)
+  tile-end block = rw (size-last plan s) (omega arith)
+
+  pub block-small : (level block : ℕ) → blockTop plan level block ≤ tilesOf (layoutOf plan) → block < 16777216
+  block-small level block h =
+      omega (arith, h, tiles-high plan s, mul-le-mul (le-refl (suc block)) (size-positive plan s level))
+
+-- one tile is a run
+pub run-of-one : (plan : Plan) (top : ℕ) → Run plan top 1
+run-of-one plan top j l =
+    let none : j ≡ 0 = omega arith in
+    let same : top - 0 ≡ top = omega arith in
+    rw (none, same) (omega arith)
+
+-- ---- the first level
+
+-- the block of level 0 is the grid
+pub grid-top : (plan : Plan) → blockTop plan 0 0 ≡ tilesOf (layoutOf plan)
+grid-top plan = one-mul (tilesOf (layoutOf plan))

@@ -1,0 +1,6 @@
+pub mod Stages
+pub mod Blocks
+pub mod Filling
+pub mod Runs
+pub mod Levels
+pub mod Outcomes
