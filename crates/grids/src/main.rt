@@ -2,6 +2,7 @@
 // Each function writes its lines into a lent list from a place on, and answers the place after them.
 ghost use mathlib.Core.Path.{_≡_};
 ghost use lib.ListN.{length};
+use chains::Chained;
 use layout::Plan;
 use libc::STDOUT_FILENO;
 use planner::Planned;
@@ -179,6 +180,39 @@ fn put_slabs(out: &mut [u8], at: usize) -> usize
     put_slab_of(out, next, planned.plan, 2, 10)
 }
 
+// What the chain call says, and what the two lists then hold.
+fn put_chained(out: &mut [u8], at: usize, chained: Chained, heads: &[u32], nexts: &[u32]) -> usize
+    ensures { λ r. ⌜ length (now (out .exit)) ≡ length (now (out .entry)) ⌝ }
+{
+    match chained {
+        Chained::Done => {
+            let next = put_line(out, at, b"heads ", heads);
+            put_line(out, next, b"nexts ", nexts)
+        }
+        Chained::Refused { number, place } => put_refused(out, at, number, place),
+    }
+}
+
+// The chains of the plan for 4 processors on 8 8 8.
+fn put_chains(out: &mut [u8], at: usize, plan: Plan) -> usize
+    ensures { λ r. ⌜ length (now (out .exit)) ≡ length (now (out .entry)) ⌝ }
+{
+    let mut heads = [7u32; 4];
+    let mut nexts = [7u32; 8];
+    let chained = chains::chains(plan, &mut heads, &mut nexts);
+    put_chained(out, at, chained, &heads, &nexts)
+}
+
+// The same with a place too many in the second list.
+fn put_long_chains(out: &mut [u8], at: usize, plan: Plan) -> usize
+    ensures { λ r. ⌜ length (now (out .exit)) ≡ length (now (out .entry)) ⌝ }
+{
+    let mut heads = [7u32; 4];
+    let mut nexts = [7u32; 9];
+    let chained = chains::chains(plan, &mut heads, &mut nexts);
+    put_chained(out, at, chained, &heads, &nexts)
+}
+
 // The owners of a position of the plan for 4 processors on 8 8 8, and of positions outside and of another length.
 fn put_owners(out: &mut [u8], at: usize, plan: Plan) -> usize
     ensures { λ r. ⌜ length (now (out .exit)) ≡ length (now (out .entry)) ⌝ }
@@ -218,7 +252,9 @@ fn put_questions(out: &mut [u8], at: usize) -> usize
     let planned = planner::plan_job(4, 3, &eights, &ones);
     let mut next = put_owners(out, at, planned.plan);
     next = put_neighbours(out, next, planned.plan);
-    put_shape(out, next, planned.plan)
+    next = put_shape(out, next, planned.plan);
+    next = put_chains(out, next, planned.plan);
+    put_long_chains(out, next, planned.plan)
 }
 
 // The plan for 6 processors on 1 9 9, whose first dimension is uncut.
