@@ -1,11 +1,13 @@
 -- Answers over the link, from their parts.
-use mathlib.Core.Path.{_≡_, refl}
+use mathlib.Core.Path.{_≡_, refl, ap, _∙_}
 use mathlib.Core.List.{List, [], _∷_}
 use Prim.Native.Nat.{ℕ, _+_, _*_}
 use lib.ListN.{length}
 use borrow.Author.Tests.{eq-eqb, ne-eqb}
 use Rattle.multipartition.specs.Answers.{Answer, answered, refused, checked}
-use Rattle.solver_link.specs.Link.{planListCheck, andThen, into, Linked}
+use Rattle.chains.specs.declared.Chained.{Chained}
+use Rattle.chains.specs.Told.{toldChained, afterwards, Answers}
+use Rattle.solver_link.specs.Link.{planListCheck, andThen, into, codeOf, heldBy, Linked}
 
 pub linked-into : (lent numbers after : List ℕ) → length lent ≡ length numbers → after ≡ numbers → Linked (into (length lent) numbers) lent 0 after
 linked-into lent numbers after e a = rw (eq-eqb _ _ e) (record { returned = refl; held = a })
@@ -15,7 +17,7 @@ pub linked-length : (lent numbers : List ℕ) → (length lent ≡ length number
 linked-length lent numbers e = rw (ne-eqb _ _ e) (record { returned = refl; held = refl })
 
 -- "a plan list of a wrong length is a 6"
-pub linked-list-length : (list : List ℕ) (asked : Answer (List ℕ)) (lent : List ℕ) → (length list ≡ 49 → ⊥)
+pub linked-list-length : {A : Type 0} (list : List ℕ) (asked : Answer A) (lent : A) → (length list ≡ 49 → ⊥)
     → Linked (checked (planListCheck list ∷ []) asked) lent 6 lent
 linked-list-length list asked lent e = rw (ne-eqb _ _ e) (record { returned = refl; held = refl })
 
@@ -30,3 +32,14 @@ pub linked-refused : {A : Type 0} (list : List ℕ) (asked : Answer A) (next : A
     → (number place : ℕ) → asked ≡ refused number place → (code : ℕ) → code ≡ number + 4294967296 * place
     → Linked (checked (planListCheck list ∷ []) (andThen asked next)) lent code lent
 linked-refused list asked next lent e number place told code sum = rw (eq-eqb _ _ e, told) (record { returned = sum; held = refl })
+
+-- the chains of a plan list
+pub linked-chains : (list : List ℕ) (asked : Answer (List ℕ × List ℕ)) (chained : Chained) (lent after : List ℕ × List ℕ) → length list ≡ 49
+    → Answers asked chained lent after → (code : ℕ) → ((lists : List ℕ × List ℕ) → code ≡ codeOf (toldChained chained lists))
+    → Linked (checked (planListCheck list ∷ []) asked) lent code after
+linked-chains list asked chained lent after e answers code sum =
+    rw (eq-eqb _ _ e) (record { returned = sum after ∙ ap codeOf (answers .told); held = answers .held ∙ same asked })
+  where
+    same : (answer : Answer (List ℕ × List ℕ)) → afterwards answer lent ≡ heldBy answer lent
+    same (answered lists) = refl
+    same (refused number place) = refl

@@ -2,13 +2,14 @@
 // place in the upper 32 bits.
 mod lists; // lists.rt: plans and answers as lists
 
+use chains::Chained;
 use questions::Neighbour;
 use questions::Owner;
 use tiles::slabs;
 use tiles::slabs::Elements;
 use tiles::slabs::SlabNumber;
 ghost use lib.ListN.{length};
-ghost use Rattle.solver_link.specs.Link.{planLink, ownerLink, neighbourLink, slabLink, slabOfLink, Linked};
+ghost use Rattle.solver_link.specs.Link.{planLink, ownerLink, neighbourLink, slabLink, slabOfLink, chainsLink, Linked};
 
 // Plans a job: the answer list gets the plan list.
 #[no_mangle]
@@ -108,5 +109,20 @@ pub extern "C" fn multipartition_slab_of(
     match slab {
         SlabNumber::Slab(s) => lists::put_one(answer, s),
         SlabNumber::Refused { number, place } => lists::joined(number, place),
+    }
+}
+
+// Which tiles each processor owns: the first list gets each processor's lowest tile, the second, for each tile, its owner's next higher one.
+#[no_mangle]
+pub extern "C" fn multipartition_chains(plan: &[u32], heads: &mut [u32], nexts: &mut [u32]) -> u64
+    ensures { λ r. ⌜ Linked (chainsLink (now (plan .entry)) (length (now (heads .entry))) (length (now (nexts .entry)))) (now (heads .entry), now (nexts .entry)) r (now (heads .exit), now (nexts .exit)) ⌝ }
+{
+    if plan.len() != lists::PLAN_LENGTH {
+        return 6;
+    }
+    let chained = chains::chains(lists::plan_in(plan), heads, nexts);
+    match chained {
+        Chained::Done => 0,
+        Chained::Refused { number, place } => lists::joined(number, place),
     }
 }
