@@ -3,7 +3,7 @@
  * Link target/staticlib/libsolver_link.a, which `rt staticlib solver_link` proves and builds.
  *
  * Lists are of 32-bit numbers. Each is passed as a pointer and its length, which counts numbers, not bytes. Dimensions are numbered
- * from 1; processors, slabs and elements from 0.
+ * from 1; processors, slabs and elements from 0; tiles from 1.
  *
  * What a caller may rely on, proved for all numbers and for lists of all lengths and contents:
  * - Every call returns. It returns 0 and has written every place of its answer lists, or it returns a refusal and has written nothing.
@@ -112,6 +112,12 @@ uint64_t multipartition_slab(const uint32_t *plan, size_t plan_length,
 uint64_t multipartition_slab_of(const uint32_t *plan, size_t plan_length,
                                 uint32_t dimension, uint32_t element,
                                 uint32_t *answer, size_t answer_length);
+
+/* Which tiles each processor owns, as chains. `heads`, of p places, gets each processor's lowest tile, 0 if it has none; `nexts`, of one
+ * place a tile, gets at place t - 1 the next higher tile of the owner of tile t, 0 at the chain's end. Refused with 6, 9. */
+uint64_t multipartition_chains(const uint32_t *plan, size_t plan_length,
+                               uint32_t *heads, size_t heads_length,
+                               uint32_t *nexts, size_t nexts_length);
 
 #ifdef __cplusplus
 }

@@ -107,6 +107,18 @@ static void questions(const char *what, const uint32_t *plan, size_t length, str
     free(list);
 }
 
+static void chain_lists(const char *what, const uint32_t *plan, size_t length, size_t heads_length, size_t nexts_length,
+                        enum multipartition_number number)
+{
+    uint32_t *list = copied(plan, MULTIPARTITION_PLAN_LENGTH, length);
+    uint32_t *heads = filled(heads_length, KEPT);
+    uint32_t *nexts = filled(nexts_length, KEPT);
+    expect(what, multipartition_chains(list, length, heads, heads_length, nexts, nexts_length), number, 0);
+    expect_kept(what, heads, heads_length);
+    expect_kept(what, nexts, nexts_length);
+    free(list);
+}
+
 /* One number of a plan in shape is changed. */
 static void out_of_shape(const uint32_t *plan, size_t place, uint32_t number)
 {
@@ -114,6 +126,7 @@ static void out_of_shape(const uint32_t *plan, size_t place, uint32_t number)
     uint32_t *changed = copied(plan, MULTIPARTITION_PLAN_LENGTH, MULTIPARTITION_PLAN_LENGTH);
     changed[place] = number;
     questions("out of shape", changed, MULTIPARTITION_PLAN_LENGTH, good, MULTIPARTITION_BAD_PLAN, MULTIPARTITION_BAD_PLAN);
+    chain_lists("out of shape", changed, MULTIPARTITION_PLAN_LENGTH, 4, 8, MULTIPARTITION_BAD_PLAN);
     free(changed);
 }
 
@@ -150,6 +163,10 @@ int main(void)
     questions("position too long", plan, n, long_position, MULTIPARTITION_OUT_OF_RANGE, MULTIPARTITION_OUT_OF_RANGE);
     questions("no answer list", plan, n, no_answer_list, MULTIPARTITION_BAD_ANSWER_LENGTH, MULTIPARTITION_BAD_ANSWER_LENGTH);
     questions("answer list too long", plan, n, long_answer_list, MULTIPARTITION_BAD_ANSWER_LENGTH, MULTIPARTITION_BAD_ANSWER_LENGTH);
+
+    chain_lists("plan list too short", plan, n - 1, 4, 8, MULTIPARTITION_BAD_PLAN);
+    chain_lists("too few heads", plan, n, 3, 8, MULTIPARTITION_BAD_ANSWER_LENGTH);
+    chain_lists("too many nexts", plan, n, 4, 9, MULTIPARTITION_BAD_ANSWER_LENGTH);
 
     if (failures == 0)
         printf("every refusal is as stated\n");

@@ -50,6 +50,15 @@ extern "C" {
         answer: *mut u32,
         answer_length: usize,
     ) -> u64;
+
+    fn multipartition_chains(
+        plan: *const u32,
+        plan_length: usize,
+        heads: *mut u32,
+        heads_length: usize,
+        nexts: *mut u32,
+        nexts_length: usize,
+    ) -> u64;
 }
 
 pub fn plan(p: u32, d: u32, extents: &[u32], weights: &[u32], plan: &mut [u32]) -> u64 {
@@ -116,6 +125,19 @@ pub fn slab_of(plan: &[u32], dimension: u32, element: u32, answer: &mut [u32]) -
             element,
             answer.as_mut_ptr(),
             answer.len(),
+        )
+    }
+}
+
+pub fn chains(plan: &[u32], heads: &mut [u32], nexts: &mut [u32]) -> u64 {
+    unsafe {
+        multipartition_chains(
+            plan.as_ptr(),
+            plan.len(),
+            heads.as_mut_ptr(),
+            heads.len(),
+            nexts.as_mut_ptr(),
+            nexts.len(),
         )
     }
 }

@@ -2,7 +2,7 @@
 
 use oracle::plan::{plan_job, Plan};
 use oracle::refusal::{self, Refusal};
-use oracle::{neighbours, owners, slabs};
+use oracle::{chains, neighbours, owners, slabs};
 
 use crate::calls;
 use crate::guarded::Guarded;
@@ -105,6 +105,26 @@ pub fn plan(lists: &mut Lists, job: &Job, lent: &[u32]) -> u64 {
         (returned, lent_list.to_vec()),
         outcome(planned.map(|plan| list_of(&plan)), lent),
         "{job:?}"
+    );
+    returned
+}
+
+/// Asks for the chains of a plan list, likewise.
+pub fn chain(lists: &mut Lists, list: &[u32], heads: &[u32], nexts: &[u32]) -> u64 {
+    let (mut expected_heads, mut expected_nexts) = (heads.to_vec(), nexts.to_vec());
+    let answered = plan_of(list)
+        .ok_or(refusal::SHAPE)
+        .and_then(|plan| chains::chains(&plan, &mut expected_heads, &mut expected_nexts));
+    let [list, heads, nexts] = lists.hold([list, heads, nexts]);
+    let returned = calls::chains(list, heads, nexts);
+    assert_eq!(
+        (returned, heads.to_vec(), nexts.to_vec()),
+        (
+            answered.map_or_else(code, |()| 0),
+            expected_heads,
+            expected_nexts
+        ),
+        "the chains of {list:?}"
     );
     returned
 }

@@ -3,8 +3,9 @@
 
 use std::collections::BTreeMap;
 
-use link::compared::{ask, plan, Lists};
-use link::plan_list::{list_of, LENGTH};
+use link::compared::{ask, chain, plan, Lists};
+use link::guarded::ROOM;
+use link::plan_list::{list_of, plan_of, LENGTH};
 use link::questions::{any_numbers, job, lent, plan_list, planned, question};
 use oracle::random::Random;
 
@@ -54,6 +55,27 @@ fn jobs() {
     seen.check(&[0, 1, 2, 3, 4, 5, 9], 30);
 }
 
+#[test]
+fn chain_lists() {
+    let mut random = Random::new(3);
+    let mut pool = planned(&mut random, 400);
+    pool.retain(|plan| plan.tiles() <= ROOM as u128);
+    let mut lists = Lists::default();
+    let mut seen = Seen::default();
+    for _ in 0..20_000 {
+        let list = plan_list(&mut random, &pool);
+        let of_plan = plan_of(&list).filter(|plan| plan.check_shape().is_ok());
+        let (p, tiles) = match of_plan.map(|plan| (plan.p, plan.tiles())) {
+            Some((p, tiles)) if tiles <= ROOM as u128 => (p as usize, tiles as usize),
+            _ => (4, 16),
+        };
+        let heads = lent(&mut random, p);
+        let nexts = lent(&mut random, tiles);
+        seen.note(chain(&mut lists, &list, &heads, &nexts));
+    }
+    seen.check(&[0, 6, 9], 500);
+}
+
 /// Lists of any numbers and of every length up to twice a plan's.
 #[test]
 fn lists_of_every_length() {
@@ -69,6 +91,7 @@ fn lists_of_every_length() {
             let question = question(&mut random, &list);
             let any = any_numbers(&mut random, length);
             ask(&mut lists, &list, &question, &any);
+            chain(&mut lists, &list, &any, &any);
         }
     }
 }

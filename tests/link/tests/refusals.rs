@@ -1,6 +1,6 @@
 //! Every refusal through the link, in the order of document 01's table, and what a refusal leaves alone.
 
-use link::calls::{neighbour, owner, plan, slab, slab_of};
+use link::calls::{chains, neighbour, owner, plan, slab, slab_of};
 use link::plan_list::LENGTH;
 
 /// The plan of 4 processors on a grid of 8 by 8 by 8: cuts 2 2 2.
@@ -47,6 +47,8 @@ fn plan_lists_of_another_length() {
         refused::<2>(6, |answer| neighbour(plan, 0, 1, 1, answer));
         refused::<2>(6, |answer| slab(plan, 1, 0, answer));
         refused::<1>(6, |answer| slab_of(plan, 1, 0, answer));
+        refused::<4>(6, |heads| chains(plan, heads, &mut [0; 8]));
+        refused::<8>(6, |nexts| chains(plan, &mut [0; 4], nexts));
     }
 }
 
@@ -78,6 +80,8 @@ fn plans_out_of_shape() {
         refused::<2>(6, |answer| neighbour(&list, 0, 1, 1, answer));
         refused::<2>(6, |answer| slab(&list, 1, 0, answer));
         refused::<1>(6, |answer| slab_of(&list, 1, 0, answer));
+        refused::<4>(6, |heads| chains(&list, heads, &mut [0; 8]));
+        refused::<8>(6, |nexts| chains(&list, &mut [0; 4], nexts));
     }
 }
 
@@ -106,6 +110,10 @@ fn seven_before_eight_before_nine() {
     refused::<3>(9, |answer| slab(&list, 1, 1, answer));
     refused::<0>(9, |answer| slab_of(&list, 1, 7, answer));
     refused::<2>(9, |answer| slab_of(&list, 1, 7, answer));
+    refused::<3>(9, |heads| chains(&list, heads, &mut [0; 8]));
+    refused::<5>(9, |heads| chains(&list, heads, &mut [0; 8]));
+    refused::<7>(9, |nexts| chains(&list, &mut [0; 4], nexts));
+    refused::<9>(9, |nexts| chains(&list, &mut [0; 4], nexts));
 }
 
 #[test]
@@ -121,6 +129,9 @@ fn answers_of_the_first_example() {
     assert_eq!((neighbour(&list, 0, 2, 1, &mut two), two), (0, [1, 3]));
     assert_eq!((slab(&list, 3, 1, &mut two), two), (0, [4, 8]));
     assert_eq!((slab_of(&list, 3, 3, &mut one), one), (0, [0]));
+    let (mut heads, mut nexts) = ([77; 4], [77; 8]);
+    assert_eq!(chains(&list, &mut heads, &mut nexts), 0);
+    assert_eq!((heads, nexts), ([1, 2, 4, 3], [8, 7, 6, 5, 0, 0, 0, 0]));
 }
 
 #[test]
