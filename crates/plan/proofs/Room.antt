@@ -28,7 +28,7 @@ use Rattle.job_text.proofs.Front.{longestLine, finds-front}
 use Rattle.plan_text.specs.PlanText.{planText, refusedText, answerText}
 use Rattle.plan_text.proofs.Lengths.{longestPlan, length-plan-text}
 use Rattle.plan.specs.Prints.{jobAnswer, programAnswer, Prints, Answers}
-use Rattle.plan.proofs.Planned.{plan-sized}
+use Rattle.planner.proofs.Answers.{plan-sized}
 
 -- ---- the input
 

@@ -1,3 +1,4 @@
 pub mod Outside
 pub mod Refusals
 pub mod Choices
+pub mod Answers

@@ -1,39 +1,21 @@
 -- Planning over the link: a refusal has a number from 1 on, so that 0 tells a plan from a refusal; the list of a planned job is read as its plan.
 use mathlib.Core.Path.{_≡_, refl, sym, ap, subst, subst⁻¹, _∙_}
-use mathlib.Core.Bool.{Bool, true, false, not, cond, _||_}
 use mathlib.Core.List.{List}
-use mathlib.Core.Option.{Option, none, some}
 use Prim.Native.Nat.{ℕ, _+_, _*_, _≤_}
 use native.Mathlib.Omega.{arith}
-use lib.Dec.{eqb, lit≤}
+use lib.Dec.{lit≤}
 use lib.ListN.{length}
 use Rattle.multipartition.specs.Answers.{Answer, answered, refused}
-use Rattle.multipartition.specs.Cuts.{cheapest}
-use Rattle.multipartition.specs.Jobs.{firstOutside, planWith, planAnswer}
-use Rattle.multipartition.specs.Plans.{Layout, between}
-use Rattle.multipartition.proofs.Cheapest.{cheapest-fits}
-use Rattle.multipartition.proofs.Fitting.{fits-length}
-use Rattle.multipartition.proofs.Jobs.{plan-answered}
-use Rattle.multipartition.proofs.Matrix.{length-matrix, length-matrix-row}
-use Rattle.multipartition.proofs.Moduli.{length-moduli}
+use Rattle.multipartition.specs.Jobs.{planAnswer}
+use Rattle.multipartition.specs.Plans.{Layout}
 use Rattle.layout.specs.declared.Plan.{Plan}
 use Rattle.layout.specs.Plans.{planOf, layoutOf, noPlan}
-use Rattle.layout.specs.Sized.{Sized}
 use Rattle.layout.proofs.Plans.{layout-of-plan}
 use Rattle.planner.specs.Planned.{plannedOf}
+use Rattle.planner.proofs.Answers.{Numbered, numbered-plan, plan-sized}
 use Rattle.planner.specs.declared.Planned.{Planned}
 use Rattle.solver_link.specs.Link.{planIn, listOfPlan, andThen, into, planLink, Linked}
 use Rattle.solver_link.proofs.Plans.{plan-in-list, arrays-of-layout}
-
--- a refusal has a number from 1 on
-abbrev Numbered : {A : Type 0} → Answer A → Type 0
-Numbered (answered a) = Unit {0}
-Numbered (refused number place) = 1 ≤ number
-
-numbered-check : {A : Type 0} (fails : Bool) (number place : ℕ) (later : Answer A) → 1 ≤ number → Numbered later
-    → Numbered (cond fails (refused number place) later)
-numbered-check true number place later h l = h
-numbered-check false number place later h l = l
 
 -- what the call returns for what the planner answers, whose number 0 tells a plan from a refusal
 module _ (planned : Planned) (lent : List ℕ) where
@@ -55,50 +37,22 @@ module _ (planned : Planned) (lent : List ℕ) where
   linked-list (refused number place) n e h code after l =
       let zero-number : number ≡ 0 = sym (ap (λ (q : Planned). q .number) e) ∙ h in absurd (omega arith)
 
-planned-d : (planned : Planned) (asked : Answer Layout) → planned ≡ plannedOf asked → ((layout : Layout) → asked ≡ answered layout → layout .d ≤ 5)
+-- a planned d, and that of a refusal, which is 0
+planned-d-le : (planned : Planned) (asked : Answer Layout) → planned ≡ plannedOf asked → ((layout : Layout) → asked ≡ answered layout → layout .d ≤ 5)
     → planned .plan .d ≤ 5
 unfolding plannedOf planOf noPlan
-planned-d planned (answered layout) e few = subst⁻¹ (λ (q : Planned). q .plan .d ≤ 5) e (few layout refl)
-planned-d planned (refused number place) e few = subst⁻¹ (λ (q : Planned). q .plan .d ≤ 5) e (lit≤ tt)
+planned-d-le planned (answered layout) e few = subst⁻¹ (λ (q : Planned). q .plan .d ≤ 5) e (few layout refl)
+planned-d-le planned (refused number place) e few = subst⁻¹ (λ (q : Planned). q .plan .d ≤ 5) e (lit≤ tt)
 
 module _ (p d : ℕ) (extents weights : List ℕ) where
-  plan-numbered : Numbered (planAnswer p d extents weights)
-  unfolding planAnswer planWith
-  plan-numbered =
-      numbered-check (not (between 2 5 d)) 1 0 _ (lit≤ tt)
-      (numbered-check (not (between 1 4096 p)) 2 0 _ (lit≤ tt)
-      (numbered-check (not (eqb (length extents) d) || not (eqb (length weights) d)) 3 0 _ (lit≤ tt)
-      (numbered-check (not (eqb (firstOutside 1 extents) 0)) 4 (firstOutside 1 extents) _ (lit≤ tt) (made (cheapest p extents weights)))))
-    where
-      made : (o : Option (List ℕ)) → Numbered (planWith p extents weights o)
-      made none = lit≤ tt
-      made (some cuts) = tt
-
-  -- the lists of a planned layout have d numbers each
-  sized-plan : (layout : Layout) → planAnswer p d extents weights ≡ answered layout → Sized layout
-  sized-plan layout a =
-      let made = plan-answered p d extents weights layout a in
-      let cuts = layout .cuts in
-      let cuts-many : length cuts ≡ length extents = fits-length extents cuts (cheapest-fits p extents weights cuts (made .cuts-are)) in
-      subst⁻¹ Sized (made .plan-is)
-      (record {
-        few = made .passed .range .d-high;
-        extents-length = refl;
-        weights-length = made .passed .weights-many ∙ sym (made .passed .extents-many);
-        cuts-length = cuts-many;
-        moduli-length = length-moduli p cuts ∙ cuts-many;
-        matrix-length = length-matrix p cuts ∙ cuts-many;
-        row-length = λ i l. length-matrix-row p cuts i (omega (arith, cuts-many)) ∙ cuts-many;
-      })
-
   -- the list of a planned job is read as the plan that was planned
   pub layout-of-planned-list : (layout : Layout) → planAnswer p d extents weights ≡ answered layout
       → layoutOf (planIn (listOfPlan (planOf layout))) ≡ layout
-  layout-of-planned-list layout a = ap layoutOf (plan-in-list (planOf layout) (arrays-of-layout layout)) ∙ layout-of-plan layout (sized-plan layout a)
+  layout-of-planned-list layout a = ap layoutOf (plan-in-list (planOf layout) (arrays-of-layout layout)) ∙ layout-of-plan layout (plan-sized p d extents weights layout a)
 
   module _ (planned : Planned) (e : planned ≡ plannedOf (planAnswer p d extents weights)) where
     pub planned-few : planned .plan .d ≤ 5
-    planned-few = planned-d planned (planAnswer p d extents weights) e (λ layout a. sized-plan layout a .few)
+    planned-few = planned-d-le planned (planAnswer p d extents weights) e (λ layout a. plan-sized p d extents weights layout a .few)
 
     pub linked-plan-refused : (lent : List ℕ) → (planned .number ≡ 0 → ⊥) → (code : ℕ) → code ≡ planned .number + 4294967296 * planned .place
         → Linked (planLink p d extents weights (length lent)) lent code lent
@@ -108,4 +62,4 @@ module _ (p d : ℕ) (extents weights : List ℕ) where
     pub linked-plan : (lent : List ℕ) → planned .number ≡ 0 → (code : ℕ) (after : List ℕ)
         → Linked (into (length lent) (listOfPlan (planned .plan))) lent code after → Linked (planLink p d extents weights (length lent)) lent code after
     unfolding planLink
-    linked-plan lent h code after l = linked-list planned lent (planAnswer p d extents weights) plan-numbered e h code after l
+    linked-plan lent h code after l = linked-list planned lent (planAnswer p d extents weights) (numbered-plan p d extents weights) e h code after l
