@@ -59,14 +59,14 @@ fn jobs() {
 fn chain_lists() {
     let mut random = Random::new(3);
     let mut pool = planned(&mut random, 400);
-    pool.retain(|plan| plan.tiles() <= ROOM as u128);
+    pool.retain(|plan| plan.tiles() < ROOM as u128);
     let mut lists = Lists::default();
     let mut seen = Seen::default();
     for _ in 0..20_000 {
         let list = plan_list(&mut random, &pool);
         let of_plan = plan_of(&list).filter(|plan| plan.check_shape().is_ok());
         let (p, tiles) = match of_plan.map(|plan| (plan.p, plan.tiles())) {
-            Some((p, tiles)) if tiles <= ROOM as u128 => (p as usize, tiles as usize),
+            Some((p, tiles)) if tiles < ROOM as u128 => (p as usize, tiles as usize),
             _ => (4, 16),
         };
         let heads = lent(&mut random, p);
