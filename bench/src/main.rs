@@ -11,8 +11,8 @@ use std::path::Path;
 use std::process::{Command, ExitCode, Stdio};
 
 use bench::jobs::{self, Job, Question};
-use bench::planning::{self, Planned};
 use bench::linked::PROVED;
+use bench::planning::{self, Planned};
 use bench::subject::{Subject, RIVAL};
 use bench::timing::{
     contest, contest_of_commands, least_seconds, print_head, print_line, shown, Contest,
