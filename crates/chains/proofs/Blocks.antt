@@ -4,7 +4,7 @@ use mathlib.Core.Path.{_≡_, refl, sym, ap, _∙_}
 use mathlib.Core.Bool.{Bool, false}
 use mathlib.Core.List.{List, [], _∷_}
 use Prim.Native.Nat.{ℕ, zero, suc, _+_, _-_, _*_, _/_, _%_, _<_, _≤_}
-use native.Mathlib.Nat.{mul-add-mod-self-right, mod-eq-of-lt, mod-lt, le-refl, le-of-eq}
+use native.Mathlib.Nat.{mul-add-mod-self-right, mod-eq-of-lt, mod-lt, le-refl, le-trans, le-of-eq}
 use native.Mathlib.Omega.{arith}
 use lib.Arith.{digits-div}
 use lib.ListN.{length, getD, set, take, drop, drop-of-length-le, take-append-drop}
@@ -23,11 +23,11 @@ use Rattle.multipartition.proofs.Neighbours.{upOne, coordinates-down}
 use Rattle.multipartition.proofs.Tiles.{position-one-down}
 use Rattle.layout.specs.declared.Plan.{Plan}
 use Rattle.layout.specs.Plans.{layoutOf}
-use Rattle.layout.specs.Shaped.{Shaped, entryOf}
+use Rattle.layout.specs.Shaped.{Factors, Shaped, entryOf}
 use Rattle.layout.proofs.Lists.{product-pos}
 use Rattle.layout.proofs.Places.{row-at, entry-at, cuts-length, moduli-length, cut-at, modulus-at}
 use Rattle.layout.proofs.Owners.{coordinate-at}
-use Rattle.chains.specs.Walks.{coordinatesOf, Holds, Below, Lowered, blockSize}
+use Rattle.chains.specs.Walks.{Entries, coordinatesOf, Holds, Below, Lowered, blockSize}
 
 -- ---- over lists
 
@@ -126,6 +126,16 @@ module _ (plan : Plan) (s : Shaped plan) where
       positive-of-places (layoutOf plan .moduli)
       (λ i l. let h : i < plan .d = omega (arith, moduli-length plan s) in rw (modulus-at plan i h) (s .modulus-low i h))
 
+  pub moduli-factors : Factors (plan .d) (plan .moduli)
+  moduli-factors =
+      record { few = s .d-high; low = s .modulus-low; high = λ i l. le-trans (s .modulus-high i l) (s .p-high) }
+
+  pub moduli-small : product (take (plan .d) (plan .moduli)) ≤ 4096
+  moduli-small = rw (s .moduli-product) (s .p-high)
+
+  pub entries : Entries (plan .d) (plan .moduli) (plan .matrix)
+  entries = record { at = s .entry-below }
+
   pub tiles-high : tilesOf (layoutOf plan) ≤ 16777216
   unfolding layoutOf
   tiles-high = s .tiles-high
@@ -156,7 +166,7 @@ module _ (plan : Plan) (s : Shaped plan) where
       ∙ rw (modulus-at plan i l)
 
   -- coordinates of an owner are below the moduli
-  pub below-of-holds : (tile : ℕ) (c : List ℕ) → Holds plan tile c → Below plan c
+  pub below-of-holds : (tile : ℕ) (c : List ℕ) → Holds plan tile c → Below (plan .d) (plan .moduli) c
   below-of-holds tile c h =
       record { five = h .five; at = λ i l. rw (h .at i l, coordinate-of tile i l) (mod-lt _ (s .modulus-low i l)) }
 
@@ -190,7 +200,7 @@ module _ (plan : Plan) (s : Shaped plan) where
   -- one step down along a level leads from the top of a block to that of the next
   pub lowered-holds : (level a i : ℕ) (c r : List ℕ) → level < plan .d → suc i < getD (plan .cuts) level 0
       → (a * getD (plan .cuts) level 0 + suc (suc i)) * blockSize plan (suc level) ≤ tilesOf (layoutOf plan)
-      → Holds plan ((a * getD (plan .cuts) level 0 + suc (suc i)) * blockSize plan (suc level)) c → Lowered plan level c r
+      → Holds plan ((a * getD (plan .cuts) level 0 + suc (suc i)) * blockSize plan (suc level)) c → Lowered (plan .d) (plan .moduli) (plan .matrix) level c r
       → Holds plan ((a * getD (plan .cuts) level 0 + suc i) * blockSize plan (suc level)) r
   lowered-holds level a i c r l m high h low = record {
     five = low .below .five;

@@ -5,15 +5,21 @@ use Prim.Native.Nat.{ℕ, suc, _+_, _-_, _*_, _<_, _≤_}
 use native.Mathlib.Nat.{le-refl, one-mul, mul-le-mul, mul-le-mul-right}
 use native.Mathlib.Numerals.{add-one}
 use native.Mathlib.Omega.{arith}
-use lib.ListN.{getD}
+use lib.ListN.{length, getD, take}
+use Rattle.multipartition.specs.MixedRadix.{numberFrom}
 use Rattle.multipartition.specs.Plans.{tilesOf}
+use Rattle.multipartition.specs.Questions.{tileOwner}
 use Rattle.layout.specs.declared.Plan.{Plan}
 use Rattle.layout.specs.Plans.{layoutOf}
 use Rattle.layout.specs.Shaped.{Shaped}
-use Rattle.chains.specs.Stages.{Visited}
-use Rattle.chains.specs.Walks.{Holds, Below, Lowered, blockSize, blockTop, Run}
+use Rattle.chains.specs.Stages.{Visited, Onward}
+use Rattle.chains.specs.Walks.{Holds, Below, Lowered, blockSize, blockTop, countDown, Depth}
 use Rattle.chains.proofs.Stages.{stage-onward, stage-afresh}
-use Rattle.chains.proofs.Blocks.{tiles-high, size-positive, size-next, size-last, below-of-holds, lowered-holds}
+use Rattle.chains.proofs.Runs.{last-within, base-fits, row-owners}
+use Rattle.chains.proofs.Blocks.{tiles-high, size-positive, size-next, below-of-holds, lowered-holds}
+
+le-suc-times : (a n : ℕ) → n ≤ (a + 1) * n
+le-suc-times a n = omega arith
 
 -- the number of the tile at the top of the part of a block in which i blocks of the next level are
 abbrev partTop : Plan → ℕ → ℕ → ℕ → ℕ
@@ -22,7 +28,7 @@ partTop plan level block i = (block * getD (plan .cuts) level 0 + i) * blockSize
 -- i blocks of the next level are still to be visited
 pub record BlockStage (plan : Plan) (level block i : ℕ) (at lent heads nexts : List ℕ) : Type 0 where
   pub few : i ≤ getD (plan .cuts) level 0
-  pub below : Below plan at
+  pub below : Below (plan .d) (plan .moduli) at
   pub visited : Visited plan (partTop plan level block i) lent heads nexts
   pub holds : 1 ≤ i → Holds plan (partTop plan level block i) at
 
@@ -73,7 +79,7 @@ module _ (plan : Plan) (s : Shaped plan) (level : ℕ) (l : level < plan .d) (bl
 
     -- and leaves the block so
     pub block-step : (next heads' nexts' : List ℕ)
-        → Visited plan ((block * getD (plan .cuts) level 0 + (i - 1)) * blockSize plan (level + 1)) nexts heads' nexts' → Lowered plan level at next
+        → Visited plan ((block * getD (plan .cuts) level 0 + (i - 1)) * blockSize plan (level + 1)) nexts heads' nexts' → Lowered (plan .d) (plan .moduli) (plan .matrix) level at next
         → BlockStage plan level block (i - 1) next lent heads' nexts'
     block-step next heads' nexts' v r =
         let fewer : block * getD (plan .cuts) level 0 + (i - 1) ≤ block * getD (plan .cuts) level 0 + i = omega arith in
@@ -90,26 +96,52 @@ module _ (plan : Plan) (s : Shaped plan) (level : ℕ) (l : level < plan .d) (bl
               (lowered-holds plan s level block (i - 2) at next l (omega (arith, b .few)) (rw (← two) (b .visited .within)) (rw (← two) (b .holds low)) r);
         }
 
--- ---- the last level
+-- ---- a row of the block
 
-module _ (plan : Plan) (s : Shaped plan) where
-  -- a block of level d is a tile
-  pub tile-top : (block : ℕ) → blockTop plan (plan .d) block ≡ block + 1
-  tile-top block = rw (size-last plan s) (omega arith)
+-- what a row of `count` tiles is visited with: the highest tile, and the number q of its owner, whose last coordinate is x
+pub record RowReady (plan : Plan) (top count q x : ℕ) (heads nexts : List ℕ) : Type 0 where
+  pub coordinate-below : x < getD (plan .moduli) (plan .d - 1) 0
+  pub coordinate-within : x ≤ q
+  pub base-high : q - x + getD (plan .moduli) (plan .d - 1) 0 ≤ length heads
+  pub count-fits : count ≤ top
+  pub top-high : top ≤ length nexts
+  pub nexts-high : length nexts ≤ 16777216
 
-  pub tile-end : (block : ℕ) → block + 1 - 1 ≡ block * blockSize plan (plan .d)
-  tile-end block = rw (size-last plan s) (omega arith)
+module _ (plan : Plan) (s : Shaped plan) (level : ℕ) (l : level < plan .d) (deep : Depth plan (level + 1)) (block i : ℕ) (at lent heads nexts : List ℕ)
+    (b : BlockStage plan level block i at lent heads nexts) (low : 1 ≤ i) (count q : ℕ) (count-is : count ≡ blockSize plan (level + 1))
+    (q-is : q ≡ numberFrom 0 (take (plan .d) (plan .moduli)) at) where
+  number-is : q ≡ numberFrom 0 (layoutOf plan .moduli) at
+  unfolding layoutOf
+  number-is = q-is
 
-  pub block-small : (level block : ℕ) → blockTop plan level block ≤ tilesOf (layoutOf plan) → block < 16777216
-  block-small level block h =
-      omega (arith, h, tiles-high plan s, mul-le-mul (le-refl (suc block)) (size-positive plan s level))
+  row-top : (block * getD (plan .cuts) level 0 + (i - 1) + 1) * count ≡ blockTop plan (level + 1) (block * getD (plan .cuts) level 0 + (i - 1))
+  row-top = rw (count-is, add-one (block * getD (plan .cuts) level 0 + (i - 1)))
 
--- one tile is a run
-pub run-of-one : (plan : Plan) (top : ℕ) → Run plan top 1
-run-of-one plan top j l =
-    let none : j ≡ 0 = omega arith in
-    let same : top - 0 ≡ top = omega arith in
-    rw (none, same) (omega arith)
+  pub row-ready : RowReady plan ((block * getD (plan .cuts) level 0 + (i - 1) + 1) * count) count q (getD at (plan .d - 1) 0) heads nexts
+  row-ready =
+      let ready = inner-ready plan s level l block i at lent heads nexts b low in
+      record {
+        coordinate-below = b .below .at (plan .d - 1) (omega (arith, s .d-low));
+        coordinate-within = rw number-is (last-within plan s at (b .below));
+        base-high = rw (number-is, b .visited .heads-length) (base-fits plan s at (b .below));
+        count-fits = le-suc-times (block * getD (plan .cuts) level 0 + (i - 1)) count;
+        top-high = rw (row-top, b .visited .nexts-length) (ready .0);
+        nexts-high = rw (b .visited .nexts-length) (tiles-high plan s);
+      }
+
+  pub row-visited : (heads' nexts' : List ℕ)
+      → Onward ((block * getD (plan .cuts) level 0 + (i - 1) + 1) * count) count
+      (λ j. q - getD at (plan .d - 1) 0 + countDown (getD (plan .moduli) (plan .d - 1) 0) (getD at (plan .d - 1) 0) j) heads nexts heads' nexts'
+      → Visited plan ((block * getD (plan .cuts) level 0 + (i - 1)) * blockSize plan (level + 1)) nexts heads' nexts'
+  row-visited heads' nexts' more =
+      let inner : ℕ = block * getD (plan .cuts) level 0 + (i - 1) in
+      let S : ℕ = blockSize plan (level + 1) in
+      let ready = inner-ready plan s level l block i at lent heads nexts b low in
+      let end : (inner + 1) * count - count ≡ inner * S = rw count-is (omega arith) in
+      rw end at
+      (more .goes (tileOwner (layoutOf plan)) (plan .p) (tilesOf (layoutOf plan)) nexts
+      (λ j m. rw (row-top, number-is) (row-owners plan s inner at (level + 1) deep (ready .0) (ready .1) j (rw (← count-is) m)))
+      (rw row-top (inner-visited plan s level l block i at lent heads nexts b low)))
 
 -- ---- the first level
 

@@ -1,5 +1,5 @@
--- Rows of a plan whose last dimension counts the last coordinate: going down a row, the owner's last coordinate falls by one from tile to tile,
--- and after 0 it is the highest; so the owners are consecutive numbers down to the tile where it is 0.
+-- Rows of a plan whose last dimension counts the last coordinate: going down a row, the owner's last coordinate is counted down, and the other
+-- coordinates stay; so the owners are consecutive numbers down to the tile where it is 0.
 use mathlib.Core.Path.{_≡_, sym, ap, _∙_}
 use mathlib.Core.Bool.{false}
 use mathlib.Core.List.{List}
@@ -13,15 +13,17 @@ use Rattle.numbers.specs.Products.{product}
 use Rattle.multipartition.specs.MixedRadix.{numberFrom}
 use Rattle.multipartition.specs.Neighbours.{turn}
 use Rattle.multipartition.specs.Plans.{tilesOf}
+use Rattle.multipartition.specs.Questions.{tileOwner}
 use Rattle.multipartition.proofs.MixedRadix.{number-set}
 use Rattle.multipartition.proofs.Neighbours.{turn-down, turn-below}
 use Rattle.layout.specs.declared.Plan.{Plan}
 use Rattle.layout.specs.Plans.{layoutOf}
 use Rattle.layout.specs.Shaped.{Shaped, entryOf}
+use Rattle.layout.proofs.Owners.{number-front-below}
 use Rattle.layout.proofs.Places.{moduli-length}
-use Rattle.chains.specs.Stages.{Visited}
-use Rattle.chains.specs.Walks.{Holds, Below, Lowered, blockSize, blockTop, Run, Counts}
-use Rattle.chains.proofs.Stages.{stage-onward}
+use Rattle.chains.specs.Stages.{Onward}
+use Rattle.chains.specs.Walks.{Holds, Below, Lowered, blockSize, blockTop, Counts, oneLess, countDown, Depth}
+use Rattle.chains.proofs.Stages.{onward-none, onward-both}
 use Rattle.chains.proofs.Blocks.{size-last, size-row, below-of-holds, number-of-holds, lowered-holds}
 
 -- ---- one coordinate
@@ -31,11 +33,6 @@ turn-by-zero m c l =
     let none : 0 % m ≡ 0 = zero-mod m in
     let whole : c + (m - 0) ≡ c + m = omega arith in
     turn-down m c 0 (omega arith) ∙ rw (none, whole) (add-mod-right c m ∙ mod-eq-of-lt l)
-
--- one less, and after 0 the highest
-abbrev pub oneLess : ℕ → ℕ → ℕ
-oneLess m zero = m - 1
-oneLess m (suc c) = c
 
 one-less : (m c : ℕ) → c < m → (c + (m - 1 % m)) % m ≡ oneLess m c
 one-less m zero l = ⊎-elim alone several (eq-or-lt-of-le l)
@@ -53,12 +50,86 @@ one-less m (suc c) l =
 turn-by-one : (m c : ℕ) → c < m → turn false m c (1 % m) ≡ oneLess m c
 turn-by-one m c l = turn-down m c (1 % m) (omega arith) ∙ rw (mod-mod 1 m) (one-less m c l)
 
--- ---- a row
+-- ---- counting down
+
+-- down to 0
+pub count-down-run : (m c k j : ℕ) → j ≤ countDown m c k → countDown m c (k + j) ≡ countDown m c k - j
+unfolding countDown
+count-down-run m c k zero l = let same : k + 0 ≡ k = omega arith in rw same (omega arith)
+count-down-run m c k (suc j) l =
+    let next : k + suc j ≡ suc (k + j) = omega arith in
+    let left : countDown m c k - j ≡ suc (countDown m c k - suc j) = omega arith in
+    rw (next, count-down-run m c k j (omega arith), left)
+
+-- and around
+pub count-down-around : (m c k : ℕ) → countDown m c (k + suc (countDown m c k)) ≡ m - 1
+unfolding countDown
+count-down-around m c k =
+    let next : k + suc (countDown m c k) ≡ suc (k + countDown m c k) = omega arith in
+    let none : countDown m c k - countDown m c k ≡ 0 = omega arith in
+    rw (next, count-down-run m c k (countDown m c k) (omega arith), none)
+
+-- ---- going through a row by runs
+
+-- `left` of `count` tiles are still to be visited, the highest of them `tile`, whose owner has the last coordinate `at`
+pub record RowStage (base m c top count tile left at : ℕ) (heads₀ nexts₀ heads nexts : List ℕ) : Type 0 where
+  pub few : left ≤ count
+  pub below : at < m
+  pub at-is : 1 ≤ left → at ≡ countDown m c (count - left)
+  pub tile-is : tile + (count - left) ≡ top
+  pub onward : Onward top (count - left) (λ j. base + countDown m c j) heads₀ nexts₀ heads nexts
+
+module _ (base m c top count : ℕ) (heads₀ nexts₀ : List ℕ) where
+  pub row-start : c < m → RowStage base m c top count top count c heads₀ nexts₀ heads₀ nexts₀
+  unfolding countDown
+  row-start l =
+      let none : count - count ≡ 0 = omega arith in
+      record {
+        few = omega arith;
+        below = l;
+        at-is = λ low. rw none;
+        tile-is = omega arith;
+        onward = rw none (onward-none top (λ j. base + countDown m c j) heads₀ nexts₀);
+      }
+
+  pub row-end : (tile left at : ℕ) (heads nexts : List ℕ) → RowStage base m c top count tile left at heads₀ nexts₀ heads nexts → left ≤ 0
+      → Onward top count (λ j. base + countDown m c j) heads₀ nexts₀ heads nexts
+  row-end tile left at heads nexts r none = let all : count - left ≡ count = omega arith in rw all at (r .onward)
+
+  -- a run of consecutive processors, down to the last coordinate 0 or to the end of the row
+  pub row-step : (tile left at run : ℕ) (heads nexts heads' nexts' : List ℕ)
+      → RowStage base m c top count tile left at heads₀ nexts₀ heads nexts → count ≤ top → 1 ≤ left → run ≡ min (at + 1) left
+      → Onward tile run (λ j. base + at - j) heads nexts heads' nexts'
+      → RowStage base m c top count (tile - run) (left - run) (m - 1) heads₀ nexts₀ heads' nexts'
+  row-step tile left at run heads nexts heads' nexts' r fits low run-is more =
+      record {
+        few = omega (arith, r .few);
+        below = omega (arith, r .below);
+        at-is = λ rest.
+            let whole : suc (countDown m c k) ≡ run = omega (arith, r .at-is low) in
+            rw (end, ← whole) (sym (count-down-around m c k));
+        tile-is = omega (arith, r .tile-is, r .few);
+        onward = rw end (onward-both top k run (λ j. base + countDown m c j) (λ j. base + at - j) heads₀ nexts₀ heads nexts heads' nexts' same (r .onward) (rw start more));
+      }
+    where
+      k : ℕ
+      k = count - left
+
+      end : count - (left - run) ≡ k + run
+      end = omega (arith, r .few, run-is)
+
+      start : top - k ≡ tile
+      start = omega (arith, r .tile-is)
+
+      same : (j : ℕ) → j < run → base + at - j ≡ base + countDown m c (k + j)
+      same j l = rw (count-down-run m c k j (omega (arith, r .at-is low, run-is))) (omega (arith, r .at-is low, run-is))
+
+-- ---- a row of a plan
 
 module _ (plan : Plan) (s : Shaped plan) (counts : Counts plan) where
   -- the last coordinate one less
-  row-lowered : (c : List ℕ) → Below plan c
-      → Lowered plan (plan .d - 1) c (set c (plan .d - 1) (oneLess (getD (plan .moduli) (plan .d - 1) 0) (getD c (plan .d - 1) 0)))
+  row-lowered : (c : List ℕ) → Below (plan .d) (plan .moduli) c
+      → Lowered (plan .d) (plan .moduli) (plan .matrix) (plan .d - 1) c (set c (plan .d - 1) (oneLess (getD (plan .moduli) (plan .d - 1) 0) (getD c (plan .d - 1) 0)))
   row-lowered c h =
       record {
         below = record {
@@ -115,129 +186,113 @@ module _ (plan : Plan) (s : Shaped plan) (counts : Counts plan) where
       one : (a * b + suc i) * blockSize plan (suc k) ≡ a * b + suc i
       one = rw size (omega arith)
 
+  within-five : (c : List ℕ) → length c ≡ 5 → plan .d - 1 < length c
+  within-five c five = omega (arith, s .d-high, s .d-low)
+
   -- the tile at place i of row a, both counted from 0
   abbrev rowTile : ℕ → ℕ → ℕ
   rowTile a i = a * getD (plan .cuts) (plan .d - 1) 0 + suc i
 
-  within-five : (c : List ℕ) → length c ≡ 5 → plan .d - 1 < length c
-  within-five c five = omega (arith, s .d-high, s .d-low)
-
-  -- j tiles down, as long as the last coordinate does not pass 0
-  pub row-down : (a i j : ℕ) (c : List ℕ) → i < getD (plan .cuts) (plan .d - 1) 0 → rowTile a i ≤ tilesOf (layoutOf plan)
-      → j ≤ i → j ≤ getD c (plan .d - 1) 0 → Holds plan (rowTile a i) c
-      → Holds plan (rowTile a i - j) (set c (plan .d - 1) (getD c (plan .d - 1) 0 - j))
-  row-down a i zero c l high m n h =
-      let same : rowTile a i - 0 ≡ rowTile a i = omega arith in
-      let all : getD c (plan .d - 1) 0 - 0 ≡ getD c (plan .d - 1) 0 = omega arith in
-      rw (same, all, set-getD c (plan .d - 1) 0) h
-  row-down a i (suc j) c l high m n h =
+  -- j tiles down
+  row-down : (a i j : ℕ) (c : List ℕ) → i < getD (plan .cuts) (plan .d - 1) 0 → rowTile a i ≤ tilesOf (layoutOf plan) → j ≤ i
+      → Holds plan (rowTile a i) c
+      → Holds plan (rowTile a i - j) (set c (plan .d - 1) (countDown (getD (plan .moduli) (plan .d - 1) 0) (getD c (plan .d - 1) 0) j))
+  unfolding countDown
+  row-down a i zero c l high n h = let same : rowTile a i - 0 ≡ rowTile a i = omega arith in rw (same, set-getD c (plan .d - 1) 0) h
+  row-down a i (suc j) c l high n h =
       let k : ℕ = plan .d - 1 in
-      let x : ℕ = getD c k 0 in
+      let x : ℕ = countDown (getD (plan .moduli) k 0) (getD c k 0) j in
       let before : rowTile a i - j ≡ rowTile a (suc (i - suc j)) = omega arith in
       let after : rowTile a i - suc j ≡ rowTile a (i - suc j) = omega arith in
-      let digit : x - j ≡ suc (x - suc j) = omega arith in
-      let at : getD (set c k (suc (x - suc j))) k 0 ≡ suc (x - suc j) = getD-set-same c k (suc (x - suc j)) 0 (within-five c (h .five)) in
-      let start : Holds plan (rowTile a (suc (i - suc j))) (set c k (suc (x - suc j)))
-      = rw (before, digit) at (row-down a i j c l high (omega arith) (omega arith) h) in
-      rw (after, ← set-set c k (suc (x - suc j)) (x - suc j))
-      (rw at at (row-next a (i - suc j) (set c k (suc (x - suc j))) (omega arith) (omega (arith, high)) start))
+      let at : getD (set c k x) k 0 ≡ x = getD-set-same c k x 0 (within-five c (h .five)) in
+      let start : Holds plan (rowTile a (suc (i - suc j))) (set c k x) = rw before at (row-down a i j c l high (omega arith) h) in
+      rw (after, ← set-set c k x (oneLess (getD (plan .moduli) k 0) x))
+      (rw at at (row-next a (i - suc j) (set c k x) (omega arith) (omega (arith, high)) start))
 
-  -- and the tile after that has the highest
-  pub row-around : (a i : ℕ) (c : List ℕ) → i < getD (plan .cuts) (plan .d - 1) 0 → rowTile a i ≤ tilesOf (layoutOf plan)
-      → getD c (plan .d - 1) 0 < i → Holds plan (rowTile a i) c
-      → Holds plan (rowTile a i - suc (getD c (plan .d - 1) 0)) (set c (plan .d - 1) (getD (plan .moduli) (plan .d - 1) 0 - 1))
-  row-around a i c l high m h =
-      let k : ℕ = plan .d - 1 in
-      let x : ℕ = getD c k 0 in
-      let before : rowTile a i - x ≡ rowTile a (suc (i - suc x)) = omega arith in
-      let after : rowTile a i - suc x ≡ rowTile a (i - suc x) = omega arith in
-      let none : x - x ≡ 0 = omega arith in
-      let at : getD (set c k 0) k 0 ≡ 0 = getD-set-same c k 0 0 (within-five c (h .five)) in
-      let start : Holds plan (rowTile a (suc (i - suc x))) (set c k 0)
-      = rw (before, none) at (row-down a i x c l high (omega arith) (omega arith) h) in
-      rw (after, ← set-set c k 0 (getD (plan .moduli) k 0 - 1))
-      (rw at at (row-next a (i - suc x) (set c k 0) (omega arith) (omega (arith, high)) start))
+-- ---- the number of an owner, its last coordinate apart
 
-  -- so those tiles belong to consecutive processors
-  pub row-run : (a i count : ℕ) (c : List ℕ) → i < getD (plan .cuts) (plan .d - 1) 0 → rowTile a i ≤ tilesOf (layoutOf plan)
-      → count ≤ suc i → count ≤ suc (getD c (plan .d - 1) 0) → Holds plan (rowTile a i) c → Run plan (rowTile a i) count
-  row-run a i count c l high m n h j lj =
+number-below-processors : (plan : Plan) → Shaped plan → (c : List ℕ) → ((i : ℕ) → i < plan .d → getD c i 0 < getD (plan .moduli) i 0)
+    → numberFrom 0 (layoutOf plan .moduli) c < plan .p
+unfolding layoutOf
+number-below-processors plan s c h = rw (s .moduli-product) at (number-front-below (plan .moduli) c (plan .d) (s .moduli-long) h)
+
+module _ (plan : Plan) (s : Shaped plan) (c : List ℕ) (h : Below (plan .d) (plan .moduli) c) where
+  -- the number with another last coordinate
+  last-apart : (x : ℕ) → numberFrom 0 (layoutOf plan .moduli) (set c (plan .d - 1) x) + getD c (plan .d - 1) 0 ≡ numberFrom 0 (layoutOf plan .moduli) c + x
+  last-apart x =
       let k : ℕ = plan .d - 1 in
-      let x : ℕ = getD c k 0 in
       let M : List ℕ = layoutOf plan .moduli in
-      let one : product (drop (suc k) M) ≡ 1
-      = ap product (drop-of-length-le M {i = suc k} (omega (arith, moduli-length plan s, s .d-low))) in
-      let there = number-of-holds plan s (rowTile a i - j) (set c k (x - j)) (row-down a i j c l high (omega arith) (omega arith) h) in
-      let here = number-of-holds plan s (rowTile a i) c h in
-      let count-down : numberFrom 0 M (set c k (x - j)) + x * 1 ≡ numberFrom 0 M c + (x - j) * 1
-      = rw one at (number-set M c k (x - j) (omega (arith, moduli-length plan s, s .d-low)) (within-five c (h .five))) in
-      omega (arith, there, here, count-down)
+      let one : product (drop (suc k) M) ≡ 1 = ap product (drop-of-length-le M {i = suc k} (omega (arith, moduli-length plan s, s .d-low))) in
+      let parts : numberFrom 0 M (set c k x) + getD c k 0 * 1 ≡ numberFrom 0 M c + x * 1
+      = rw one at (number-set M c k x (omega (arith, moduli-length plan s, s .d-low)) (omega (arith, h .five, s .d-high, s .d-low))) in
+      omega (arith, parts)
 
--- ---- the walk over a row
+  pub last-within : getD c (plan .d - 1) 0 ≤ numberFrom 0 (layoutOf plan .moduli) c
+  last-within = omega (arith, last-apart 0)
 
--- tile `top` of row `block` and those below it, `left` of them, are still to be visited
-pub record RowStage (plan : Plan) (block top left : ℕ) (at lent heads nexts : List ℕ) : Type 0 where
-  pub left-high : left ≤ getD (plan .cuts) (plan .d - 1) 0
-  pub top-is : top ≡ block * getD (plan .cuts) (plan .d - 1) 0 + left
-  pub five : length at ≡ 5
-  pub visited : Visited plan top lent heads nexts
-  pub holds : 1 ≤ left → Holds plan top at
+  -- the processors that differ in the last coordinate only are all there
+  pub base-fits : numberFrom 0 (layoutOf plan .moduli) c - getD c (plan .d - 1) 0 + getD (plan .moduli) (plan .d - 1) 0 ≤ plan .p
+  base-fits = omega (arith, last-within, last-apart (m - 1), highest-below, low)
+    where
+      k : ℕ
+      k = plan .d - 1
 
-module _ (plan : Plan) (s : Shaped plan) where
-  pub row-start : (block : ℕ) (c heads nexts : List ℕ) → Holds plan (blockTop plan (plan .d - 1) block) c
-      → Visited plan (blockTop plan (plan .d - 1) block) nexts heads nexts
-      → RowStage plan block ((block + 1) * getD (plan .cuts) (plan .d - 1) 0) (getD (plan .cuts) (plan .d - 1) 0) c nexts heads nexts
-  row-start block c heads nexts h v =
-      let top : blockTop plan (plan .d - 1) block ≡ (block + 1) * getD (plan .cuts) (plan .d - 1) 0 = rw (size-row plan s) (omega arith) in
-      record {
-        left-high = omega arith;
-        top-is = omega arith;
-        five = h .five;
-        visited = rw top at v;
-        holds = λ l. rw top at h;
-      }
+      m : ℕ
+      m = getD (plan .moduli) k 0
 
-  pub row-end : (block top left : ℕ) (at lent heads nexts : List ℕ) → RowStage plan block top left at lent heads nexts → left ≤ 0
-      → Visited plan (block * blockSize plan (plan .d - 1)) lent heads nexts
-  row-end block top left at lent heads nexts r l =
-      let end : top ≡ block * blockSize plan (plan .d - 1) = rw (size-row plan s) (omega (arith, r .top-is)) in
-      rw end at (r .visited)
+      low : 1 ≤ m
+      low = s .modulus-low k (omega (arith, s .d-low))
 
-  pub coordinate-high : (block top left : ℕ) (at lent heads nexts : List ℕ) → RowStage plan block top left at lent heads nexts → 1 ≤ left
-      → getD at (plan .d - 1) 0 < 4096
-  coordinate-high block top left at lent heads nexts r l =
-      let k : plan .d - 1 < plan .d = omega (arith, s .d-low) in
-      omega (arith, below-of-holds plan s top at (r .holds l) .at (plan .d - 1) k, s .modulus-high (plan .d - 1) k, s .p-high)
+      place : (i : ℕ) → (i ≡ k) ⊎ (i < k) → getD (set c k (m - 1)) i 0 < getD (plan .moduli) i 0
+      place i (inl same) = rw (same, getD-set-same c k (m - 1) 0 (omega (arith, h .five, s .d-high, s .d-low))) (omega (arith, low))
+      place i (inr below) = rw (getD-set-other c k i (m - 1) 0 (λ same. absurd (omega arith))) (h .at i (omega arith))
 
-  module _ (counts : Counts plan) (block top left run : ℕ) (at lent heads nexts : List ℕ) (r : RowStage plan block top left at lent heads nexts)
-      (low : 1 ≤ left) (run-is : run ≡ min (getD at (plan .d - 1) 0 + 1) left) where
-    tile : top ≡ block * getD (plan .cuts) (plan .d - 1) 0 + suc (left - 1)
-    tile = omega (arith, r .top-is)
+      highest-below : numberFrom 0 (layoutOf plan .moduli) (set c k (m - 1)) < plan .p
+      highest-below =
+          number-below-processors plan s (set c k (m - 1)) (λ i l. let upto : i ≤ k = omega arith in place i (eq-or-lt-of-le upto))
 
-    -- a run may be visited
-    pub run-ready : Holds plan top at × (run ≤ top) × Run plan top run
-    run-ready =
-        let h = r .holds low in (
-          h,
-          omega (arith, r .top-is),
-          λ j m.
-              rw tile
-              (row-run plan s counts block (left - 1) run at (omega (arith, r .left-high)) (omega (arith, tile, r .visited .within)) (omega arith) (omega arith)
-              (rw tile at h) j m),
-        )
+-- ---- the owners of a row, whether it has one tile or the last dimension counts
 
-    -- and leaves the row so
-    pub row-step : (heads' nexts' : List ℕ) → Visited plan (top - run) nexts heads' nexts'
-        → RowStage plan block (top - run) (left - run) (set at (plan .d - 1) (getD (plan .moduli) (plan .d - 1) 0 - 1)) lent heads' nexts'
-    row-step heads' nexts' v =
-        record {
-          left-high = omega (arith, r .left-high);
-          top-is = omega (arith, r .top-is);
-          five = length-set at (plan .d - 1) (getD (plan .moduli) (plan .d - 1) 0 - 1) ∙ r .five;
-          visited = stage-onward _ _ _ top (top - run) lent heads nexts heads' nexts' (omega arith) (r .visited) v;
-          holds = λ more.
-              let whole : run ≡ suc (getD at (plan .d - 1) 0) = omega arith in
-              rw (whole, tile)
-              (row-around plan s counts block (left - 1) at (omega (arith, r .left-high)) (omega (arith, tile, r .visited .within)) (omega arith)
-              (rw tile at (r .holds low)));
-        }
+module _ (plan : Plan) (s : Shaped plan) (block : ℕ) (c : List ℕ) where
+  -- a block of level d is a tile
+  tile-owner : blockTop plan (plan .d) block ≤ tilesOf (layoutOf plan) → Holds plan (blockTop plan (plan .d) block) c
+      → (j : ℕ) → j < blockSize plan (plan .d)
+      → tileOwner (layoutOf plan) (blockTop plan (plan .d) block - j)
+      ≡ numberFrom 0 (layoutOf plan .moduli) c - getD c (plan .d - 1) 0 + countDown (getD (plan .moduli) (plan .d - 1) 0) (getD c (plan .d - 1) 0) j
+  unfolding countDown
+  tile-owner high h j l =
+      let none : j ≡ 0 = omega (arith, size-last plan s) in
+      let same : blockTop plan (plan .d) block - 0 ≡ blockTop plan (plan .d) block = omega arith in
+      rw (none, same)
+      (number-of-holds plan s (blockTop plan (plan .d) block) c h
+      ∙ omega (arith, last-within plan s c (below-of-holds plan s (blockTop plan (plan .d) block) c h)))
+
+  -- a block of level d - 1 is a row
+  counted-owner : Counts plan → blockTop plan (plan .d - 1) block ≤ tilesOf (layoutOf plan) → Holds plan (blockTop plan (plan .d - 1) block) c
+      → (j : ℕ) → j < blockSize plan (plan .d - 1)
+      → tileOwner (layoutOf plan) (blockTop plan (plan .d - 1) block - j)
+      ≡ numberFrom 0 (layoutOf plan .moduli) c - getD c (plan .d - 1) 0 + countDown (getD (plan .moduli) (plan .d - 1) 0) (getD c (plan .d - 1) 0) j
+  counted-owner counts high h j l =
+      let k : ℕ = plan .d - 1 in
+      let b : ℕ = getD (plan .cuts) k 0 in
+      let x : ℕ = countDown (getD (plan .moduli) k 0) (getD c k 0) j in
+      let low : 1 ≤ b = s .cut-low k (omega (arith, s .d-low)) in
+      let top : blockTop plan k block ≡ block * b + suc (b - 1) = rw (size-row plan s) (omega arith) in
+      let there : Holds plan (block * b + suc (b - 1) - j) (set c k x)
+      = row-down plan s counts block (b - 1) j c (omega arith) (omega (arith, top, high)) (omega (arith, size-row plan s)) (rw top at h) in
+      let below = below-of-holds plan s (blockTop plan k block) c h in
+      rw top
+      (number-of-holds plan s (block * b + suc (b - 1) - j) (set c k x) there
+      ∙ omega (arith, last-apart plan s c below x, last-within plan s c below))
+
+  pub row-owners : (depth : ℕ) → Depth plan depth → blockTop plan depth block ≤ tilesOf (layoutOf plan) → Holds plan (blockTop plan depth block) c
+      → (j : ℕ) → j < blockSize plan depth
+      → tileOwner (layoutOf plan) (blockTop plan depth block - j)
+      ≡ numberFrom 0 (layoutOf plan .moduli) c - getD c (plan .d - 1) 0 + countDown (getD (plan .moduli) (plan .d - 1) 0) (getD c (plan .d - 1) 0) j
+  row-owners depth e high h j l =
+      ⊎-elim
+      (λ (same : depth ≡ plan .d). rw same (tile-owner (rw same at high) (rw same at h) j (rw same at l)))
+      (λ (less : depth < plan .d).
+      let same : depth ≡ plan .d - 1 = omega (arith, e .low) in
+      rw same (counted-owner (e .counts less) (rw same at high) (rw same at h) j (rw same at l)))
+      (eq-or-lt-of-le (e .high))

@@ -13,7 +13,7 @@ use borrow.Author.Tests.{eqb-true, eqb-false}
 use Rattle.multipartition.specs.Lists.{listOf}
 use Rattle.multipartition.specs.Chains.{lowest, nextHigher, headsOf, nextsOf}
 use Rattle.multipartition.proofs.Chains.{length-listOf, getD-listOf}
-use Rattle.chains.specs.Stages.{Stage}
+use Rattle.chains.specs.Stages.{Stage, Onward}
 
 module _ (own : ℕ → ℕ) (p n : ℕ) where
   -- no tile is visited
@@ -108,3 +108,43 @@ module _ (own : ℕ → ℕ) (p n : ℕ) where
         ap (λ (j : ℕ). getD nexts j 0) (sym at) ∙ s .next-visited (suc i) (omega arith) within
         ∙ sym (getD-listOf 1 n (nextHigher own n) i within ∙ ap (nextHigher own n) tile)),
   )
+
+-- ---- going on, whoever owns the tiles
+
+pub onward-none : (top : ℕ) (who : ℕ → ℕ) (heads nexts : List ℕ) → Onward top 0 who heads nexts heads nexts
+onward-none top who heads nexts =
+    let same : top - 0 ≡ top = omega arith in
+    record { heads-kept = refl; nexts-kept = refl; goes = λ own p n lent own-is s. rw same s }
+
+-- one tile more
+pub onward-step : (top k : ℕ) (who : ℕ → ℕ) (heads nexts heads' nexts' : List ℕ) → k < top → who k < length heads
+    → Onward top k who heads nexts heads' nexts'
+    → Onward top (suc k) who heads nexts (set heads' (who k) (top - k)) (set nexts' (top - suc k) (getD heads' (who k) 0))
+onward-step top k who heads nexts heads' nexts' l mine a =
+    record {
+      heads-kept = length-set heads' (who k) (top - k) ∙ a .heads-kept;
+      nexts-kept = length-set nexts' (top - suc k) (getD heads' (who k) 0) ∙ a .nexts-kept;
+      goes = λ own p n lent own-is s.
+          let here : top - k ≡ suc (top - suc k) = omega arith in
+          let owner : own (suc (top - suc k)) ≡ who k = ap own (sym here) ∙ own-is k (omega arith) in
+          let so-far : Stage own p n (suc (top - suc k)) lent heads' nexts'
+          = rw here at (a .goes own p n lent (λ j m. own-is j (omega arith)) s) in
+          rw (here, ← owner)
+          (stage-step own p n (top - suc k) lent heads' nexts' (omega (arith, owner, mine, s .heads-length)) so-far);
+    }
+
+-- and more after them
+pub onward-both : (top k count : ℕ) (who who' : ℕ → ℕ) (heads nexts heads' nexts' heads'' nexts'' : List ℕ)
+    → ((j : ℕ) → j < count → who' j ≡ who (k + j)) → Onward top k who heads nexts heads' nexts'
+    → Onward (top - k) count who' heads' nexts' heads'' nexts'' → Onward top (k + count) who heads nexts heads'' nexts''
+onward-both top k count who who' heads nexts heads' nexts' heads'' nexts'' same a b =
+    record {
+      heads-kept = b .heads-kept ∙ a .heads-kept;
+      nexts-kept = b .nexts-kept ∙ a .nexts-kept;
+      goes = λ own p n lent own-is s.
+          let end : top - k - count ≡ top - (k + count) = omega arith in
+          rw end at
+          (b .goes own p n lent
+          (λ j m. let tile : top - k - j ≡ top - (k + j) = omega arith in rw tile (own-is (k + j) (omega arith) ∙ sym (same j m)))
+          (a .goes own p n lent (λ j m. own-is j (omega arith)) s));
+    }

@@ -22,3 +22,10 @@ pub record Stage (own : ℕ → ℕ) (p n t : ℕ) (lent heads nexts : List ℕ)
 -- the same of a plan's tiles
 abbrev pub Visited : Plan → ℕ → List ℕ → List ℕ → List ℕ → Type 0
 Visited plan t lent heads nexts = Stage (tileOwner (layoutOf plan)) (plan .p) (tilesOf (layoutOf plan)) t lent heads nexts
+
+-- Whoever owns the tiles, if `who` owns tiles top, top - 1, ..: a stage at top has gone on by `count` tiles.
+pub record Onward (top count : ℕ) (who : ℕ → ℕ) (heads nexts heads' nexts' : List ℕ) : Type 0 where
+  pub heads-kept : length heads' ≡ length heads
+  pub nexts-kept : length nexts' ≡ length nexts
+  pub goes : (own : ℕ → ℕ) (p n : ℕ) (lent : List ℕ) → ((j : ℕ) → j < count → own (top - j) ≡ who j)
+      → Stage own p n top lent heads nexts → Stage own p n (top - count) lent heads' nexts'

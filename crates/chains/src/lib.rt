@@ -6,7 +6,8 @@ ghost use mathlib.Core.Bool.{true, false};
 ghost use mathlib.Core.Path.{_≡_};
 ghost use mathlib.Core.List.{[]};
 ghost use Prim.Native.Nat.{_+_, _-_, _*_, _<_, _≤_, min};
-ghost use lib.ListN.{length, getD, replicate};
+ghost use lib.ListN.{length, getD, take, replicate};
+ghost use Rattle.numbers.specs.Products.{product};
 ghost use Rattle.multipartition.specs.Chains.{headsOf, nextsOf};
 ghost use Rattle.multipartition.specs.MixedRadix.{numberFrom};
 ghost use Rattle.multipartition.specs.Neighbours.{turn};
@@ -15,10 +16,10 @@ ghost use Rattle.multipartition.specs.Plans.{tilesOf};
 ghost use Rattle.multipartition.specs.Tiles.{positionOf};
 ghost use Rattle.multipartition.specs.Questions.{tileOwner, chainsAnswer};
 ghost use Rattle.layout.specs.Plans.{layoutOf};
-ghost use Rattle.layout.specs.Shaped.{Shaped};
+ghost use Rattle.layout.specs.Shaped.{Factors, Shaped};
 ghost use Rattle.chains.specs.Told.{Answers};
-ghost use Rattle.chains.specs.Stages.{Visited};
-ghost use Rattle.chains.specs.Walks.{Holds, Below, Lowered, blockSize, blockTop, Run, Counts};
+ghost use Rattle.chains.specs.Stages.{Visited, Onward};
+ghost use Rattle.chains.specs.Walks.{Entries, Holds, Below, Lowered, blockSize, blockTop, Counts, countDown, Depth};
 
 pub enum Chained {
     Done,
@@ -37,14 +38,13 @@ fn clear(list: &mut [u32])
 }
 
 // The number of the processor with these coordinates.
-fn number_of(plan: Plan, c: [u32; 5]) -> usize
-    requires { ⌜ (Shaped plan) × (Below plan c) ⌝ }
-    ensures { λ r. ⌜ (r ≡ numberFrom 0 (layoutOf plan .moduli) c) × (r < plan .p) ⌝ }
+fn number_of(d: usize, moduli: &[u32; 5], c: [u32; 5]) -> usize
+    requires { ⌜ (Factors d (now moduli)) × (product (take d (now moduli)) ≤ 4096) × (Below d (now moduli) c) ⌝ }
+    ensures { λ r. ⌜ r ≡ numberFrom 0 (take d (now (moduli .entry))) c ⌝ }
 {
-    let d = plan.d;
     let mut number: u32 = 0;
     for i in 0..d {
-        number = number * plan.moduli[i] + c[i];
+        number = number * moduli[i] + c[i];
     }
     number as usize
 }
@@ -61,42 +61,45 @@ fn minus(m: u32, c: u32, a: u32) -> u32
 }
 
 // The owner's coordinates one step down along level k.
-fn lowered(plan: Plan, k: usize, c: [u32; 5]) -> [u32; 5]
-    requires { ⌜ (Shaped plan) × (k < plan .d) × (Below plan c) ⌝ }
-    ensures { λ r. ⌜ Lowered plan k c r ⌝ }
+fn lowered<'a>(
+    d: usize,
+    k: usize,
+    moduli: &'a [u32; 5],
+    matrix: &'a [u32; 25],
+    c: [u32; 5],
+) -> [u32; 5]
+    requires { ⌜ (Factors d (now moduli)) × (k < d) × (Entries d (now moduli) (now matrix)) × (Below d (now moduli) c) ⌝ }
+    ensures { λ r. ⌜ Lowered d (now (moduli .entry)) (now (matrix .entry)) k c r ⌝ }
 {
-    let d = plan.d;
     let mut next = c;
     for i in 0..d {
         let at = i * 5 + k;
-        next[i] = minus(plan.moduli[i], c[i], plan.matrix[at]);
+        next[i] = minus(moduli[i], c[i], matrix[at]);
     }
     next
 }
 
-// Visits `count` tiles that belong to consecutive processors, the highest of them `top`, whose owner has the coordinates c.
-fn link(plan: Plan, top: u32, count: usize, c: [u32; 5], heads: &mut [u32], nexts: &mut [u32])
-    requires { ⌜ (Shaped plan) × (Holds plan top c) × (count ≤ top) × (Run plan top count) ⌝ }
-    requires { ⌜ Visited plan top (now nexts) (now heads) (now nexts) ⌝ }
-    ensures { λ r. ⌜ Visited plan (top - count) (now (nexts .entry)) (now (heads .exit)) (now (nexts .exit)) ⌝ }
+// Visits `count` tiles, the highest of them `top`, that belong to the processors q, q - 1, ..
+fn link(q: usize, top: u32, count: usize, heads: &mut [u32], nexts: &mut [u32])
+    requires { ⌜ (q < length (now heads)) × (count ≤ q + 1) × (count ≤ top) × (top ≤ length (now nexts)) × (length (now nexts) ≤ 16777216) ⌝ }
+    ensures { λ r. ⌜ Onward top count (λ j. q - j) (now (heads .entry)) (now (nexts .entry)) (now (heads .exit)) (now (nexts .exit)) ⌝ }
 {
-    let after = number_of(plan, c) + 1;
-    let from = after - count;
+    let from = q + 1 - count;
     let below = (top as usize) - count;
     let mut tile = top;
     let mut i = count;
     while 0 < i {
         i = i - 1;
         let at = below + i;
-        let q = from + i;
-        nexts[at] = heads[q];
-        heads[q] = tile;
+        let owner = from + i;
+        nexts[at] = heads[owner];
+        heads[owner] = tile;
         tile = tile - 1;
     }
 }
 
 // The smaller of two numbers.
-fn smaller(a: u32, b: u32) -> u32
+fn smaller(a: usize, b: usize) -> usize
     ensures { λ r. ⌜ r ≡ min a b ⌝ }
 {
     if a <= b {
@@ -105,59 +108,101 @@ fn smaller(a: u32, b: u32) -> u32
     b
 }
 
-// Visits the tiles that differ in the last coordinate only, a run at a time: a run ends where the owner's last coordinate is 0, and the next
-// tile down has the highest.
-fn row(plan: Plan, block: u32, c: [u32; 5], heads: &mut [u32], nexts: &mut [u32])
-    requires { ⌜ (Shaped plan) × (Counts plan) × (blockTop plan (plan .d - 1) block ≤ tilesOf (layoutOf plan)) ⌝ }
-    requires { ⌜ Holds plan (blockTop plan (plan .d - 1) block) c ⌝ }
-    requires { ⌜ Visited plan (blockTop plan (plan .d - 1) block) (now nexts) (now heads) (now nexts) ⌝ }
-    ensures { λ r. ⌜ Visited plan (block * blockSize plan (plan .d - 1)) (now (nexts .entry)) (now (heads .exit)) (now (nexts .exit)) ⌝ }
+// Visits `count` tiles, the highest of them `top`, whose owner's last coordinate is counted down from c, modulo m; the processors with the other
+// coordinates as they are begin at `base`.
+fn row(
+    base: usize,
+    m: usize,
+    c: usize,
+    top: u32,
+    count: usize,
+    heads: &mut [u32],
+    nexts: &mut [u32],
+)
+    requires { ⌜ (c < m) × (base + m ≤ length (now heads)) × (count ≤ top) × (top ≤ length (now nexts)) × (length (now nexts) ≤ 16777216) ⌝ }
+    ensures { λ r. ⌜ Onward top count (λ j. base + countDown m c j) (now (heads .entry)) (now (nexts .entry)) (now (heads .exit)) (now (nexts .exit)) ⌝ }
 {
-    let last = plan.d - 1;
-    let b = plan.cuts[last];
-    let highest = plan.moduli[last] - 1;
-    let mut top = (block + 1) * b;
-    let mut left = b;
+    let mut tile = top;
+    let mut left = count;
     let mut at = c;
     while 0 < left {
-        let run = smaller(at[last] + 1, left);
-        link(plan, top, run as usize, at, heads, nexts);
-        at[last] = highest;
-        top = top - run;
+        let run = smaller(at + 1, left);
+        link(base + at, tile, run, heads, nexts);
+        tile = tile - (run as u32);
         left = left - run;
+        at = m - 1;
     }
 }
 
-// Visits a block of a level: down to single tiles where depth is d, down to rows where it is one less.
+// Visits a block whose blocks of the next level are rows.
+fn rows(
+    plan: Plan,
+    level: usize,
+    length: u32,
+    block: u32,
+    c: [u32; 5],
+    heads: &mut [u32],
+    nexts: &mut [u32],
+)
+    requires { ⌜ (Shaped plan) × (Depth plan (level + 1)) × (level < plan .d) × (length ≡ blockSize plan (level + 1)) ⌝ }
+    requires { ⌜ Holds plan (blockTop plan level block) c ⌝ }
+    requires { ⌜ Visited plan (blockTop plan level block) (now nexts) (now heads) (now nexts) ⌝ }
+    ensures { λ r. ⌜ Visited plan (block * blockSize plan level) (now (nexts .entry)) (now (heads .exit)) (now (nexts .exit)) ⌝ }
+{
+    let d = plan.d;
+    let last = d - 1;
+    let m = plan.moduli[last] as usize;
+    let b = plan.cuts[level];
+    let mut at = c;
+    let mut i = b;
+    while 0 < i {
+        i = i - 1;
+        let coordinate = at[last] as usize;
+        let base = number_of(d, &plan.moduli, at) - coordinate;
+        let top = (block * b + i + 1) * length;
+        row(base, m, coordinate, top, length as usize, heads, nexts);
+        let next = lowered(d, level, &plan.moduli, &plan.matrix, at);
+        at = next;
+    }
+}
+
+// Visits a block, level by level down to rows.
 fn walk(
     plan: Plan,
     depth: usize,
+    length: u32,
     level: usize,
     block: u32,
     c: [u32; 5],
     heads: &mut [u32],
     nexts: &mut [u32],
 )
-    requires { ⌜ (Shaped plan) × (level ≤ depth) × (depth ≤ plan .d) × (plan .d ≤ depth + 1) × (depth < plan .d → Counts plan) ⌝ }
-    requires { ⌜ (blockTop plan level block ≤ tilesOf (layoutOf plan)) × (Holds plan (blockTop plan level block) c) ⌝ }
+    requires { ⌜ (Shaped plan) × (Depth plan depth) × (level < depth) × (length ≡ blockSize plan depth) ⌝ }
+    requires { ⌜ Holds plan (blockTop plan level block) c ⌝ }
     requires { ⌜ Visited plan (blockTop plan level block) (now nexts) (now heads) (now nexts) ⌝ }
     ensures { λ r. ⌜ Visited plan (block * blockSize plan level) (now (nexts .entry)) (now (heads .exit)) (now (nexts .exit)) ⌝ }
 {
-    if level == depth {
-        if depth < plan.d {
-            row(plan, block, c, heads, nexts);
-            return;
-        }
-        link(plan, block + 1, 1, c, heads, nexts);
+    if level + 1 == depth {
+        rows(plan, level, length, block, c, heads, nexts);
         return;
     }
+    let d = plan.d;
     let b = plan.cuts[level];
     let mut at = c;
     let mut i = b;
     while 0 < i {
         i = i - 1;
-        walk(plan, depth, level + 1, block * b + i, at, heads, nexts);
-        let next = lowered(plan, level, at);
+        walk(
+            plan,
+            depth,
+            length,
+            level + 1,
+            block * b + i,
+            at,
+            heads,
+            nexts,
+        );
+        let next = lowered(d, level, &plan.moduli, &plan.matrix, at);
         at = next;
     }
 }
@@ -208,12 +253,23 @@ fn counts(plan: Plan) -> bool
 // How many levels the walk goes down.
 fn depth_of(plan: Plan) -> usize
     requires { ⌜ Shaped plan ⌝ }
-    ensures { λ r. ⌜ (r ≤ plan .d) × (plan .d ≤ r + 1) × (r < plan .d → Counts plan) ⌝ }
+    ensures { λ r. ⌜ Depth plan r ⌝ }
 {
     if counts(plan) {
         return plan.d - 1;
     }
     plan.d
+}
+
+// How many tiles a row has.
+fn row_length(plan: Plan, depth: usize) -> u32
+    requires { ⌜ (Shaped plan) × (Depth plan depth) ⌝ }
+    ensures { λ r. ⌜ r ≡ blockSize plan depth ⌝ }
+{
+    if depth < plan.d {
+        return plan.cuts[depth];
+    }
+    1
 }
 
 // Both lists of the stated lengths are filled.
@@ -222,9 +278,12 @@ fn fill(plan: Plan, heads: &mut [u32], nexts: &mut [u32])
     ensures { λ r. ⌜ (now (heads .exit) ≡ headsOf (tileOwner (layoutOf plan)) (tilesOf (layoutOf plan)) (plan .p)) × (now (nexts .exit) ≡ nextsOf (tileOwner (layoutOf plan)) (tilesOf (layoutOf plan))) ⌝ }
 {
     clear(heads);
+    let depth = depth_of(plan);
+    let length = row_length(plan, depth);
     walk(
         plan,
-        depth_of(plan),
+        depth,
+        length,
         0,
         0,
         top_coordinates(plan),

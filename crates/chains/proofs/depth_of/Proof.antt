@@ -11,7 +11,9 @@ sub-result : tie.Need-sub-result
 sub-result c = search needs
 
 returns : tie.Need-returns
-returns c = (omega (arith, c .before .before .before .pre .d-low), omega arith, λ l. c .before .before .counts .ensures (c .before .if1 .taken))
+returns c =
+    let s = c .before .before .before in
+    record { high = omega (arith, s .pre .d-low); low = omega arith; counts = λ l. c .before .before .counts .ensures (c .before .if1 .taken) }
 
 returns-2 : tie.Need-returns-2
 returns-2 c = search needs

@@ -1,7 +1,7 @@
 -- `fill` meets its contract.
 use mathlib.Core.Path.{_≡_}
 use Prim.Native.Nat.{_*_}
-use native.Mathlib.Nat.{le-of-eq, zero-mul}
+use native.Mathlib.Nat.{zero-mul}
 use native.Mathlib.Omega.{arith}
 use borrow.Author.Needs.{needs}
 use Rattle.multipartition.specs.Plans.{tilesOf}
@@ -19,18 +19,21 @@ clear-requires c κs = search needs
 depth-of-requires : tie.Need-depth-of-requires
 depth-of-requires c κs = search needs
 
+row-length-requires : tie.Need-row-length-requires
+row-length-requires c κs = search needs
+
 top-coordinates-requires : tie.Need-top-coordinates-requires
 top-coordinates-requires c κs = search needs
 
 walk-requires : tie.Need-walk-requires
 walk-requires c κs =
-    let s = c .before .before .before .before .before .before .before .before .before .before in
-    let depth = c .before .before .before .depth-of .ensures in
+    let s = c .before .before .before .before .before .before .before .before .before .before .before in
+    let depth = c .before .before .before .before .depth-of .ensures in
     let top = grid-top (s .args .plan) in (
-      (s .pre .0, omega arith, depth .0, depth .1, depth .2),
+      (s .pre .0, depth, omega (arith, depth .low, s .pre .0 .d-low), c .before .before .before .row-length .ensures),
       (
-        (le-of-eq top, rw top (c .before .before .top-coordinates .ensures)),
-        rw (top, c .before .before .before .before .before .before .clear .ensures, s .pre .1)
+        rw top (c .before .before .top-coordinates .ensures),
+        rw (top, c .before .before .before .before .before .before .before .clear .ensures, s .pre .1)
             (stage-start (tileOwner (layoutOf (s .args .plan))) (s .args .plan .p) (tilesOf (layoutOf (s .args .plan))) (s .args .nexts .now) (s .pre .2)),
       ),
     )
@@ -43,7 +46,7 @@ same-length-2 c = search needs
 
 returns : tie.Need-returns
 returns c =
-    let s = c .before .before .before .before .before .before .before .before .before .before .before .before .before .before .before in
+    let s = c .before .before .before .before .before .before .before .before .before .before .before .before .before .before .before .before in
     let none : 0 * blockSize (s .args .plan) 0 ≡ 0 = zero-mul (blockSize (s .args .plan) 0) in
     stage-end (tileOwner (layoutOf (s .args .plan))) (s .args .plan .p) (tilesOf (layoutOf (s .args .plan))) _ _ _
     (rw none at (c .before .before .before .before .walk .ensures))
@@ -54,6 +57,7 @@ fill-spec =
     (tie.spec
     clear-requires
     depth-of-requires
+    row-length-requires
     top-coordinates-requires
     walk-requires
     same-length

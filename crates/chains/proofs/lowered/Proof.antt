@@ -3,30 +3,27 @@ use mathlib.Core.Path.{_≡_, _∙_}
 use mathlib.Core.Bool.{false}
 use mathlib.Core.List.{List}
 use Prim.Native.Nat.{ℕ, _-_, _<_, _≤_}
-use native.Mathlib.Nat.{le-trans}
 use native.Mathlib.Omega.{arith}
 use lib.ListN.{length, getD, length-set}
 use borrow.Author.Needs.{needs}
 use Rattle.multipartition.specs.Neighbours.{turn}
-use Rattle.layout.specs.declared.Plan.{Plan}
 use Rattle.layout.specs.Shaped.{entryOf}
 use Rattle.chains.proofs.Filling.{places-more}
 use Rattle.chains.proofs.lowered.Statement.{statement}
 use Rattle.chains.proofs.lowered.Tie as tie
 
 -- a coordinate one step down
-abbrev Turned : Plan → ℕ → List ℕ → ℕ → ℕ → Type 0
-Turned plan k c j x =
-    (x ≡ turn false (getD (plan .moduli) j 0) (getD c j 0) (entryOf (plan .matrix) j k)) × (x < getD (plan .moduli) j 0)
+abbrev Turned : List ℕ → List ℕ → ℕ → List ℕ → ℕ → ℕ → Type 0
+Turned moduli matrix k c j x = (x ≡ turn false (getD moduli j 0) (getD c j 0) (entryOf matrix j k)) × (x < getD moduli j 0)
 
 abbrev Inv-loop : tie.InvT-loop
-Inv-loop k plan c d next₀ i₀ next i = (i ≤ d) × (length next ≡ 5) × ((j : ℕ) → j < i → Turned plan k c j (getD next j 0))
+Inv-loop d k moduli matrix c next₀ i₀ next i = (i ≤ d) × (length next ≡ 5) × ((j : ℕ) → j < i → Turned moduli matrix k c j (getD next j 0))
 
 abbrev μ-loop : tie.MeasureT-loop
-μ-loop k plan c d next₀ i₀ next i = d - i
+μ-loop d k moduli matrix c next₀ i₀ next i = d - i
 
 loop-holds : tie.Need-loop-holds Inv-loop μ-loop
-loop-holds c = (omega arith, c .pre .2 .five, λ j l. absurd (omega arith))
+loop-holds c = (omega arith, c .pre .3 .five, λ j l. absurd (omega arith))
 
 mul-at : tie.Need-mul-at Inv-loop μ-loop
 mul-at c = search needs
@@ -56,7 +53,7 @@ minus-requires : tie.Need-minus-requires Inv-loop μ-loop
 minus-requires c κs =
     let s = c .before .before .before .before in
     let i = c .before .before .before .loop .i in
-    (s .pre .2 .at i (omega arith), s .pre .0 .entry-below i _ (omega arith) (s .pre .1), le-trans (s .pre .0 .modulus-high i (omega arith)) (s .pre .0 .p-high))
+    (s .pre .3 .at i (omega arith), s .pre .2 .at i _ (omega arith) (s .pre .1), s .pre .0 .high i (omega arith))
 
 mul-next : tie.Need-mul-next Inv-loop μ-loop
 mul-next c = search needs
@@ -76,12 +73,12 @@ loop-again c =
     let l = c .before .before .before .before .loop in (
       omega arith,
       length-set (l .next) (l .i) (c .minus .result) ∙ l .inv .1,
-      places-more (Turned (s .args .t1) (s .args .k) (s .args .t3)) (l .next) (l .i) (c .minus .result) (omega (arith, l .inv .1)) (l .inv .2) (c .minus .ensures),
+      places-more (Turned (s .args .moduli .now) (s .args .matrix .now) (s .args .k) (s .args .t5)) (l .next) (l .i) (c .minus .result) (omega (arith, l .inv .1))
+          (l .inv .2) (c .minus .ensures),
     )
 
 returns : tie.Need-returns Inv-loop μ-loop
 returns c =
-    let s = c .before .before in
     let l = c .before .loop in
     record {
       below = record { five = l .inv .1; at = λ j m. l .inv .2 j (omega arith) .1 };
