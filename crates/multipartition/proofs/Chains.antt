@@ -12,7 +12,7 @@ use lib.ListN.{length, getD}
 use borrow.Author.Tests.{eqb-true, eqb-false}
 use Rattle.multipartition.specs.Lists.{listOf}
 use Rattle.multipartition.specs.Chains.{lowest, nextHigher, headsOf, nextsOf}
-use Rattle.multipartition.proofs.Slabs.{by-cond}
+use Rattle.multipartition.proofs.Tests.{by-cond}
 
 pub length-listOf : (from n : ℕ) (f : ℕ → ℕ) → length (listOf from n f) ≡ n
 unfolding listOf

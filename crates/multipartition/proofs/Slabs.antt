@@ -1,7 +1,6 @@
 -- The slabs of a dimension are non-empty, in order and cover its elements, and an element's slab is the one that holds it. All this rests on
 -- three laws of slabStart: it starts at 0, ends at n, and rises.
 use mathlib.Core.Path.{_≡_, refl, ap, _∙_}
-use mathlib.Core.Bool.{Bool, true, false, cond}
 use mathlib.Core.List.{[], _∷_}
 use mathlib.Core.Logic.{_↔_, ⊎-elim}
 use Prim.Native.Nat.{ℕ, zero, suc, _+_, _-_, _*_, _/_, _<_, _≤_}
@@ -11,6 +10,7 @@ use lib.Dec.{ltb}
 use borrow.Author.Tests.{ltb-true, ltb-false}
 use Rattle.multipartition.specs.Lists.{listOf}
 use Rattle.multipartition.specs.Slabs.{slabStart, slabEnd, slabFrom, slabOf}
+use Rattle.multipartition.proofs.Tests.{by-cond}
 
 -- ---- the laws of slabStart
 
@@ -27,10 +27,6 @@ unfolding slabStart
 slab-start-rises n b s low high l = le-div-iff-mul-le low .1 (omega (arith, div-mul-le-self (s * n) b))
 
 -- ---- what follows from them
-
-pub by-cond {ℓ} : {A : Type ℓ} (P : A → Type 0) (t : Bool) (x y : A) → (t ≡ true → P x) → (t ≡ false → P y) → P (cond t x y)
-by-cond P true x y f g = f refl
-by-cond P false x y f g = g refl
 
 -- slab s holds an element
 abbrev pub InSlab : ℕ → ℕ → ℕ → ℕ → Type 0

@@ -1,7 +1,7 @@
 -- Tests put together: what `&&`, `||` and `allBelow` decide.
 use mathlib.Core.Path.{_≡_, refl, subst⁻¹}
 use mathlib.Core.Logic.{_⊎_, inl, inr, ⊎-elim, _↔_}
-use mathlib.Core.Bool.{Bool, true, false, _&&_, _||_}
+use mathlib.Core.Bool.{Bool, true, false, cond, _&&_, _||_}
 use Prim.Native.Nat.{ℕ, zero, suc, _<_}
 use native.Mathlib.Nat.{not-suc-le-zero, le-of-suc-le-suc, le-refl, eq-or-lt-of-le}
 use native.Mathlib.Omega.{arith}
@@ -28,3 +28,8 @@ allBelow-true-iff (suc n) test = (
   where
     here : (allBelow n test ≡ true) × (test n ≡ true) → (k : ℕ) → (k < n → test k ≡ true) → k < suc n → test k ≡ true
     here e k below h = ⊎-elim (λ (q : k ≡ n). subst⁻¹ (λ (j : ℕ). test j ≡ true) q (e .1)) below (eq-or-lt-of-le (le-of-suc-le-suc h))
+
+-- what holds of either choice, where its test says so
+pub by-cond {ℓ} : {A : Type ℓ} (P : A → Type 0) (t : Bool) (x y : A) → (t ≡ true → P x) → (t ≡ false → P y) → P (cond t x y)
+by-cond P true x y f g = f refl
+by-cond P false x y f g = g refl

@@ -1,7 +1,7 @@
 -- Tile numbers and positions are made from each other; a step from tile to tile stays in the grid, comes back, and meets the edge just where
 -- the grid ends. Numbers are numbers in mixed radix over the cuts, shifted by one.
 use mathlib.Core.Path.{_≡_, refl, sym, ap, ap₂, _∙_}
-use mathlib.Core.Bool.{Bool, true, false, not, cond, _&&_}
+use mathlib.Core.Bool.{Bool, true, false, not, cond}
 use mathlib.Core.List.{List, [], _∷_, map}
 use mathlib.Core.Logic.{_↔_}
 use mathlib.Core.Option.{none, some}
@@ -16,14 +16,10 @@ use Rattle.numbers.specs.Products.{product}
 use Rattle.multipartition.specs.Lists.{startingWith}
 use Rattle.multipartition.specs.MixedRadix.{numberFrom, digitsOf}
 use Rattle.multipartition.specs.Tiles.{Inside, isInside, positions, tileNumber, positionOf, oneStepOn}
+use Rattle.multipartition.proofs.Tests.{and-true-iff}
 use Rattle.multipartition.proofs.MixedRadix.{Positive, number-below, digits-inside, digits-from, digits-of-number, number-of-digits, number-set}
 
 -- ---- inside the grid
-
--- both parts of a true `&&`
-both : (a b : Bool) → (a && b) ≡ true → (a ≡ true) × (b ≡ true)
-both true b e = (refl, e)
-both false b e = (e, let clash : _≡_ {A = Bool} false true = e in cc)
 
 pub inside-of-test : (cuts position : List ℕ) → isInside cuts position ≡ true → Inside cuts position
 unfolding isInside Inside
@@ -31,7 +27,7 @@ inside-of-test [] [] e = tt
 inside-of-test [] (i ∷ position) e = let clash : _≡_ {A = ℕ} 0 1 = cc in absurd (omega arith)
 inside-of-test (b ∷ cuts) [] e = let clash : _≡_ {A = ℕ} 0 1 = cc in absurd (omega arith)
 inside-of-test (b ∷ cuts) (i ∷ position) e =
-    let parts = both (ltb i b) (isInside cuts position) e in (ltb-true i b (parts .0), inside-of-test cuts position (parts .1))
+    let parts = and-true-iff (ltb i b) (isInside cuts position) .0 e in (ltb-true i b (parts .0), inside-of-test cuts position (parts .1))
 
 pub test-of-inside : (cuts position : List ℕ) → Inside cuts position → isInside cuts position ≡ true
 unfolding isInside Inside
