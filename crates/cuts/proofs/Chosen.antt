@@ -3,10 +3,10 @@
 use mathlib.Core.Path.{_≡_, refl, sym, _∙_, ap, subst, subst⁻¹}
 use mathlib.Core.Logic.{⊎-elim, _≢_}
 use mathlib.Core.Bool.{true, false}
-use mathlib.Core.List.{List, _∷_, _++_}
+use mathlib.Core.List.{List, [], _∷_, _++_}
 use mathlib.Core.Option.{Option, none, some}
 use Prim.Native.Nat.{ℕ, suc, _+_, _-_, _/_, _%_, _^_, _∣_, _≤_, _<_}
-use native.Mathlib.Nat.{le-trans, dvd-refl, dvd-trans, eq-or-lt-of-le}
+use native.Mathlib.Nat.{le-trans, dvd-refl, dvd-trans, one-mul, eq-or-lt-of-le, le-of-suc-le-suc}
 use native.Mathlib.Decide.{decLe}
 use native.Mathlib.Omega.{arith}
 use lib.ListN.{length, getD, set, take, replicate, length-append, length-replicate, length-set, List·getD-append}
@@ -17,13 +17,14 @@ use Rattle.multipartition.specs.Lists.{first}
 use Rattle.multipartition.specs.Cuts.{Even, Fits, costOf, cheapest}
 use Rattle.multipartition.proofs.Cheapest.{Cheapest, cheapest-only}
 use Rattle.multipartition.proofs.Fitting.{fits-length}
-use Rattle.cuts.specs.Questions.{allAfter, eachAfter, Open, lastOf, Among, Divisors}
+use Rattle.cuts.specs.Questions.{spareAfter, eachAfter, Open, lastOf, Among, Divisors}
 use Rattle.cuts.specs.Answers.{Least, Number, Answers}
 use Rattle.cuts.specs.Memory.{Remembers}
 use Rattle.cuts.specs.Search.{Searchable}
 use Rattle.cuts.specs.Found.{Chosen, Job, Ready}
-use Rattle.cuts.proofs.Questions.{wanted-of-even, all-pos, lastOf-suc, lastOf-all}
-use Rattle.cuts.proofs.Answers.{least-unique, least-dvd, least-rest}
+use Rattle.cuts.proofs.Questions.{wanted-of-even, spare-pos, each-pos, posed-after, lastOf-zero, lastOf-suc, lastOf-all}
+use Rattle.cuts.proofs.Answers.{least-unique}
+use Rattle.cuts.proofs.Tried.{least-rest, least-one}
 use Rattle.cuts.proofs.Memory.{getD-zeros}
 
 -- ---- the divisors of p
@@ -44,13 +45,13 @@ divisors-serve p divisors pos small e = subst⁻¹ (λ (l : List ℕ). Divisors 
 -- ---- what the definition answers
 
 -- what is chosen among the open cuts is what the definition answers
-cheapest-of-least : (p : ℕ) (extents weights : List ℕ) (o : Option (List ℕ)) → 0 < length extents → Least weights (Open p p extents) o → cheapest p extents weights ≡ o
+cheapest-of-least : (p : ℕ) (extents weights : List ℕ) (o : Option (List ℕ)) → 0 < length extents → Least weights (Open 1 p extents) o → cheapest p extents weights ≡ o
 cheapest-of-least p extents weights o some-d h = cheapest-only p extents weights o (go o h)
   where
-    open-of : (v : List ℕ) → Fits extents v → Even p v → Open p p extents v
+    open-of : (v : List ℕ) → Fits extents v → Even p v → Open 1 p extents v
     open-of v f even = (f, wanted-of-even p v (omega (arith, fits-length extents v f)) even)
 
-    go : (o : Option (List ℕ)) → Least weights (Open p p extents) o → Cheapest p extents weights o
+    go : (o : Option (List ℕ)) → Least weights (Open 1 p extents) o → Cheapest p extents weights o
     go none h = λ v f even. h v (open-of v f even)
     go (some u) h = (h .0 .0, h .0 .1 .1, λ v f even. h .1 v (open-of v f even))
 
@@ -82,40 +83,74 @@ number-of-least Q weights u r h k = subst (λ (o : Option (List ℕ)). Number we
 
 -- ---- the cuts are read off
 
--- `whole` is chosen; the cuts before the last `left` + 1 dimensions are read, and r is the answer for these
-pub record Walk (p : ℕ) (extents weights divisors places known : List ℕ) (cost left all each r : ℕ) (cuts : List ℕ) : Type 0 where
-  pub whole : List ℕ
-  pub chosen : Least weights (Open p p extents) (some whole)
-  pub cost-is : cost ≡ costOf weights whole
-  pub ask : Searchable extents weights divisors places known left all each
-  pub rest : Least (lastOf (suc left) weights) (Open all each (lastOf (suc left) extents)) (some (lastOf (suc left) whole))
-  pub number : Number (lastOf (suc left) weights) (some (lastOf (suc left) whole)) r
+-- the first k places have the cuts of `whole`, and the others are zero
+pub record Read (whole cuts : List ℕ) (k : ℕ) : Type 0 where
   pub five : length cuts ≡ 5
-  pub read : (i : ℕ) → i < length extents - suc left → getD cuts i 0 ≡ getD whole i 0
-  pub unread : (i : ℕ) → length extents - suc left ≤ i → getD cuts i 0 ≡ 0
+  pub same : (i : ℕ) → i < k → getD cuts i 0 ≡ getD whole i 0
+  pub zeros : (i : ℕ) → k ≤ i → getD cuts i 0 ≡ 0
 
-some-dimension : (p : ℕ) (extents weights : List ℕ) → Job p extents weights → 0 < length extents
-some-dimension p extents weights job = omega (arith, job .range .d-low)
+read-set : (whole cuts : List ℕ) (k b : ℕ) → k < 5 → b ≡ getD whole k 0 → Read whole cuts k → Read whole (set cuts k b) (suc k)
+read-set whole cuts k b inside e h =
+    record {
+      five = length-set cuts k b ∙ h .five;
+      same = λ i l. ⊎-elim (last i) (older i) (eq-or-lt-of-le (le-of-suc-le-suc l));
+      zeros = λ i l. getD-set-other cuts k i b 0 (λ q. omega arith) ∙ h .zeros i (omega arith);
+    }
+  where
+    last : (i : ℕ) → i ≡ k → getD (set cuts k b) i 0 ≡ getD whole i 0
+    last i q =
+        ap (λ (j : ℕ). getD (set cuts k b) j 0) q ∙ getD-set-same cuts k b 0 (omega (arith, h .five)) ∙ e ∙ ap (λ (j : ℕ). getD whole j 0) (sym q)
 
-lastOf-whole : (d left : ℕ) (xs : List ℕ) → 0 < d → left ≡ d - 1 → length xs ≡ d → lastOf (suc left) xs ≡ xs
-lastOf-whole d left xs some-d at e = let all-left : suc left ≡ length xs = omega arith in ap (λ (k : ℕ). lastOf k xs) all-left ∙ lastOf-all xs
+    older : (i : ℕ) → i < k → getD (set cuts k b) i 0 ≡ getD whole i 0
+    older i l = getD-set-other cuts k i b 0 (λ q. omega arith) ∙ h .same i l
+
+read-all : (whole cuts : List ℕ) → length whole ≤ 5 → Read whole cuts (length whole) → cuts ≡ whole ++ replicate (5 - length whole) 0
+read-all whole cuts few h = ext-getD 0 cuts (whole ++ replicate (5 - length whole) 0) lengths (λ i l. agree i (decLe (length whole) i))
+  where
+    lengths : length cuts ≡ length (whole ++ replicate (5 - length whole) 0)
+    lengths =
+        let both = length-append whole (replicate (5 - length whole) 0) in
+        let padding = length-replicate {A = ℕ} (5 - length whole) 0 in
+        omega (arith, h .five)
+
+    agree : (i : ℕ) → Dec (length whole ≤ i) → getD cuts i 0 ≡ getD (whole ++ replicate (5 - length whole) 0) i 0
+    agree i (no l) = h .same i (omega arith) ∙ sym (List·getD-append whole (replicate (5 - length whole) 0) 0 i (omega arith))
+    agree i (yes l) =
+        let split : length whole + (i - length whole) ≡ i = omega arith in
+        h .zeros i l ∙ sym (getD-zeros (5 - length whole) (i - length whole))
+        ∙ sym (getD-append-add whole (replicate (5 - length whole) 0) (i - length whole) 0)
+        ∙ ap (λ (k : ℕ). getD (whole ++ replicate (5 - length whole) 0) k 0) split
+
+-- `whole` is chosen; the cuts before the last `left` + 2 dimensions are read, and r is the answer for these
+pub record Walk (p : ℕ) (extents weights divisors places known : List ℕ) (cost left spare each r : ℕ) (cuts : List ℕ) : Type 0 where
+  pub whole : List ℕ
+  pub chosen : Least weights (Open 1 p extents) (some whole)
+  pub cost-is : cost ≡ costOf weights whole
+  pub ask : Searchable extents weights divisors places known left spare each
+  pub rest : Least (lastOf (suc (suc left)) weights) (Open spare each (lastOf (suc (suc left)) extents)) (some (lastOf (suc (suc left)) whole))
+  pub number : Number (lastOf (suc (suc left)) weights) (some (lastOf (suc (suc left)) whole)) r
+  pub read : Read whole cuts (length extents - suc (suc left))
+
+-- all dimensions
+all-dimensions : (d left : ℕ) (xs : List ℕ) → 2 ≤ d → left ≡ d - 2 → length xs ≡ d → lastOf (suc (suc left)) xs ≡ xs
+all-dimensions d left xs two at e = let all-left : suc (suc left) ≡ length xs = omega arith in ap (λ (k : ℕ). lastOf k xs) all-left ∙ lastOf-all xs
 
 pub walk-start : (p : ℕ) (extents weights divisors places known : List ℕ) (left r : ℕ) → Job p extents weights →
-    left ≡ length extents - 1 → r ≢ 2 ^ 63 → Searchable extents weights divisors places known left p p →
-    Answers (Open p p (lastOf (suc left) extents)) (lastOf (suc left) weights) r →
-    Walk p extents weights divisors places known (r / 8192) left p p r (replicate 5 0)
+    left ≡ length extents - 2 → r ≢ 2 ^ 63 → Searchable extents weights divisors places known left 1 p →
+    Answers (Open 1 p (lastOf (suc (suc left)) extents)) (lastOf (suc (suc left)) weights) r →
+    Walk p extents weights divisors places known (r / 8192) left 1 p r (replicate 5 0)
 walk-start p extents weights divisors places known left r job at other ask h =
-    start (answers-some-of (Open p p extents) weights r other (rw (all-extents, all-weights) at h))
+    start (answers-some-of (Open 1 p extents) weights r other (rw (all-extents, all-weights) at h))
   where
-    all-extents : lastOf (suc left) extents ≡ extents
-    all-extents = lastOf-whole (length extents) left extents (some-dimension p extents weights job) at refl
+    all-extents : lastOf (suc (suc left)) extents ≡ extents
+    all-extents = all-dimensions (length extents) left extents (job .range .d-low) at refl
 
-    all-weights : lastOf (suc left) weights ≡ weights
-    all-weights = lastOf-whole (length extents) left weights (some-dimension p extents weights job) at (job .weights-too)
+    all-weights : lastOf (suc (suc left)) weights ≡ weights
+    all-weights = all-dimensions (length extents) left weights (job .range .d-low) at (job .weights-too)
 
-    start : Some (Open p p extents) weights r → Walk p extents weights divisors places known (r / 8192) left p p r (replicate 5 0)
+    start : Some (Open 1 p extents) weights r → Walk p extents weights divisors places known (r / 8192) left 1 p r (replicate 5 0)
     start found =
-        let all-cuts = lastOf-whole (length extents) left (found .cuts) (some-dimension p extents weights job) at (fits-length extents (found .cuts) (found .least .0 .0)) in
+        let all-cuts = all-dimensions (length extents) left (found .cuts) (job .range .d-low) at (fits-length extents (found .cuts) (found .least .0 .0)) in
         record {
           whole = found .cuts;
           chosen = found .least;
@@ -123,139 +158,139 @@ walk-start p extents weights divisors places known left r job at other ask h =
           ask = ask;
           rest = rw (all-extents, all-weights, all-cuts) (found .least);
           number = rw (all-weights, all-cuts) (found .number);
-          five = refl;
-          read = λ i k. absurd (omega arith);
-          unread = λ i k. getD-zeros 5 i;
+          read = record { five = refl; same = λ i k. absurd (omega arith); zeros = λ i k. getD-zeros 5 i };
         }
 
-module _ (p : ℕ) (extents weights divisors places known : List ℕ) (cost left all each r : ℕ) (cuts : List ℕ)
-    (walk : Walk p extents weights divisors places known cost left all each r cuts) where
+module _ (p : ℕ) (extents weights divisors places known : List ℕ) (cost left spare each r : ℕ) (cuts : List ℕ)
+    (walk : Walk p extents weights divisors places known cost left spare each r cuts) where
   whole-length : length (walk .whole) ≡ length extents
   whole-length = fits-length extents (walk .whole) (walk .chosen .0 .0)
 
-  whole-first : lastOf (suc left) (walk .whole) ≡ getD (walk .whole) (length extents - suc left) 0 ∷ lastOf left (walk .whole)
-  whole-first =
-      subst (λ (n : ℕ). lastOf (suc left) (walk .whole) ≡ getD (walk .whole) (n - suc left) 0 ∷ lastOf left (walk .whole)) whole-length
-      (lastOf-suc left (walk .whole) (omega (arith, walk .ask .within, whole-length)))
+  -- the last k + 1 cuts chosen begin with that of the dimension before the last k
+  whole-suc : (k : ℕ) → k < length extents → lastOf (suc k) (walk .whole) ≡ getD (walk .whole) (length extents - suc k) 0 ∷ lastOf k (walk .whole)
+  whole-suc k h =
+      subst (λ (n : ℕ). lastOf (suc k) (walk .whole) ≡ getD (walk .whole) (n - suc k) 0 ∷ lastOf k (walk .whole)) whole-length
+      (lastOf-suc k (walk .whole) (omega (arith, whole-length)))
 
-  extents-first : lastOf (suc left) extents ≡ getD extents (length extents - suc left) 0 ∷ lastOf left extents
-  extents-first = lastOf-suc left extents (walk .ask .within)
+  extents-first : lastOf (suc (suc left)) extents ≡ getD extents (length extents - suc (suc left)) 0 ∷ lastOf (suc left) extents
+  extents-first = lastOf-suc (suc left) extents (walk .ask .within)
 
-  weights-first : lastOf (suc left) weights ≡ getD weights (length weights - suc left) 0 ∷ lastOf left weights
-  weights-first = lastOf-suc left weights (omega (arith, walk .ask .within, walk .ask .weights-too))
+  weights-first : lastOf (suc (suc left)) weights ≡ getD weights (length weights - suc (suc left)) 0 ∷ lastOf (suc left) weights
+  weights-first = lastOf-suc (suc left) weights (omega (arith, walk .ask .within, walk .ask .weights-too))
 
   -- the answer has its cut
-  pub walk-cut : (b : ℕ) → b ≡ r % 8192 → b ≡ getD (walk .whole) (length extents - suc left) 0
+  walk-cut : (b : ℕ) → b ≡ r % 8192 → b ≡ getD (walk .whole) (length extents - suc (suc left)) 0
   walk-cut b e =
-      let same : first (lastOf (suc left) (walk .whole)) ≡ getD (walk .whole) (length extents - suc left) 0 = ap first whole-first in
+      let same : first (lastOf (suc (suc left)) (walk .whole)) ≡ getD (walk .whole) (length extents - suc (suc left)) 0 = ap first (whole-suc (suc left) (walk .ask .within)) in
       omega (arith, walk .number .0, walk .number .1)
 
-  rest-least : Least (getD weights (length weights - suc left) 0 ∷ lastOf left weights)
-      (Open all each (getD extents (length extents - suc left) 0 ∷ lastOf left extents)) (some (getD (walk .whole) (length extents - suc left) 0 ∷ lastOf left (walk .whole)))
-  rest-least = rw (extents-first, weights-first, whole-first) at (walk .rest)
+  rest-least : Least (getD weights (length weights - suc (suc left)) 0 ∷ lastOf (suc left) weights)
+      (Open spare each (getD extents (length extents - suc (suc left)) 0 ∷ lastOf (suc left) extents))
+      (some (getD (walk .whole) (length extents - suc (suc left)) 0 ∷ lastOf (suc left) (walk .whole)))
+  rest-least = rw (extents-first, weights-first, whole-suc (suc left) (walk .ask .within)) at (walk .rest)
 
-  positive : 0 < all
-  positive = all-pos divisors all each (walk .ask .divided) (walk .ask .posed)
+  some-spare : 0 < spare
+  some-spare = spare-pos divisors spare each (walk .ask .divided) (walk .ask .posed)
 
-  -- it divides `all`
-  pub walk-dvd : (b : ℕ) → b ≡ r % 8192 → b ∣ all
-  walk-dvd b e =
-      subst⁻¹ (λ (n : ℕ). n ∣ all) (walk-cut b e)
-      (least-dvd all each (getD extents (length extents - suc left) 0) (getD (walk .whole) (length extents - suc left) 0) (lastOf left extents)
-      (getD weights (length weights - suc left) 0 ∷ lastOf left weights) (lastOf left (walk .whole)) positive (walk .ask .posed .shared) rest-least)
+  some-each : 0 < each
+  some-each = each-pos divisors spare each (walk .ask .divided) (walk .ask .posed)
 
-  -- one place more is read
-  read-one : (b : ℕ) → b ≡ r % 8192 → (i : ℕ) → i ≤ length extents - suc left → getD (set cuts (length extents - suc left) b) i 0 ≡ getD (walk .whole) i 0
-  read-one b e i h = ⊎-elim last older (eq-or-lt-of-le h)
-    where
-      last : i ≡ length extents - suc left → getD (set cuts (length extents - suc left) b) i 0 ≡ getD (walk .whole) i 0
-      last q =
-          ap (λ (k : ℕ). getD (set cuts (length extents - suc left) b) k 0) q
-          ∙ getD-set-same cuts (length extents - suc left) b 0 (omega (arith, walk .five, walk .ask .within, walk .ask .five))
-          ∙ walk-cut b e ∙ ap (λ (k : ℕ). getD (walk .whole) k 0) (sym q)
+  -- what is chosen for the dimensions after it
+  next-least : (b : ℕ) → b ≡ r % 8192 →
+      Least (lastOf (suc left) weights) (Open (spareAfter spare each b) (eachAfter each b) (lastOf (suc left) extents)) (some (lastOf (suc left) (walk .whole)))
+  next-least b e =
+      rw (walk-cut b e)
+      (least-rest spare each (getD (walk .whole) (length extents - suc (suc left)) 0) (getD extents (length extents - suc (suc left)) 0)
+      (getD weights (length weights - suc (suc left)) 0) (lastOf (suc left) extents) (lastOf (suc left) weights) some-spare some-each (lastOf (suc left) (walk .whole)) rest-least)
 
-      older : i < length extents - suc left → getD (set cuts (length extents - suc left) b) i 0 ≡ getD (walk .whole) i 0
-      older l = getD-set-other cuts (length extents - suc left) i b 0 (λ q. omega arith) ∙ walk .read i l
-
-  unread-one : (b i : ℕ) → length extents - suc left < i → getD (set cuts (length extents - suc left) b) i 0 ≡ 0
-  unread-one b i h = getD-set-other cuts (length extents - suc left) i b 0 (λ q. omega arith) ∙ walk .unread i (omega arith)
+  read-next : (at b : ℕ) → at ≡ length extents - suc (suc left) → b ≡ r % 8192 → Read (walk .whole) (set cuts at b) (suc (length extents - suc (suc left)))
+  read-next at b place e =
+      rw place (read-set (walk .whole) cuts (length extents - suc (suc left)) b (omega (arith, walk .ask .within, walk .ask .five)) (walk-cut b e) (walk .read))
 
   -- the next answer is found
-  pub walk-next : (known′ : List ℕ) (at b all′ each′ r′ : ℕ) → 0 < left → at ≡ length extents - suc left → b ≡ r % 8192 →
-      all′ ≡ allAfter all each b → each′ ≡ eachAfter each b → Searchable extents weights divisors places known′ (left - 1) all′ each′ →
-      Answers (Open all′ each′ (lastOf (suc (left - 1)) extents)) (lastOf (suc (left - 1)) weights) r′ →
-      Walk p extents weights divisors places known′ cost (left - 1) all′ each′ r′ (set cuts at b)
-  walk-next known′ at b all′ each′ r′ some-left place e ea ee ask h =
+  pub walk-next : (known′ : List ℕ) (at b spare′ each′ r′ : ℕ) → 0 < left → at ≡ length extents - suc (suc left) → b ≡ r % 8192 →
+      spare′ ≡ spareAfter spare each b → each′ ≡ eachAfter each b → Searchable extents weights divisors places known′ (left - 1) spare′ each′ →
+      Answers (Open spare′ each′ (lastOf (suc (suc (left - 1))) extents)) (lastOf (suc (suc (left - 1))) weights) r′ →
+      Walk p extents weights divisors places known′ cost (left - 1) spare′ each′ r′ (set cuts at b)
+  walk-next known′ at b spare′ each′ r′ some-left place e ea ee ask h =
       record {
         whole = walk .whole;
         chosen = walk .chosen;
         cost-is = walk .cost-is;
         ask = ask;
         rest = next;
-        number = number-of-least (Open all′ each′ (lastOf (suc (left - 1)) extents)) (lastOf (suc (left - 1)) weights) (lastOf (suc (left - 1)) (walk .whole)) r′ next h;
-        five = length-set cuts at b ∙ walk .five;
-        read = λ i k. rw place (read-one b e i (omega arith));
-        unread = λ i k. rw place (unread-one b i (omega (arith, walk .ask .within)));
+        number = number-of-least (Open spare′ each′ (lastOf (suc (suc (left - 1))) extents)) (lastOf (suc (suc (left - 1))) weights)
+            (lastOf (suc (suc (left - 1))) (walk .whole)) r′ next h;
+        read = subst (λ (k : ℕ). Read (walk .whole) (set cuts at b) k) one-more (read-next at b place e);
       }
     where
       all-left : suc (left - 1) ≡ left
       all-left = omega (arith, some-left)
 
-      next : Least (lastOf (suc (left - 1)) weights) (Open all′ each′ (lastOf (suc (left - 1)) extents)) (some (lastOf (suc (left - 1)) (walk .whole)))
-      next =
-          rw (all-left, ea, ee, walk-cut b e)
-          (least-rest all each (getD (walk .whole) (length extents - suc left) 0) (getD extents (length extents - suc left) 0) (getD weights (length weights - suc left) 0)
-          (lastOf left extents) (lastOf left weights) positive (walk .ask .posed .shared) (lastOf left (walk .whole)) rest-least)
+      one-more : suc (length extents - suc (suc left)) ≡ length extents - suc (suc (left - 1))
+      one-more = omega (arith, some-left, walk .ask .within)
 
-  -- the last cut is read
-  pub walk-end : (b : ℕ) → left ≡ 0 → b ≡ r % 8192 → Chosen p extents weights true cost (set cuts (length extents - 1) b)
-  walk-end b none-left e =
-      let is : cheapest p extents weights ≡ some (walk .whole) = cheapest-of-least p extents weights (some (walk .whole)) (omega (arith, walk .ask .within)) (walk .chosen) in
-      let place : length extents - 1 ≡ length extents - suc left = ap (λ (k : ℕ). length extents - suc k) (sym none-left) in
-      record { ok-is = rw is; cost-is = rw is (walk .cost-is); cuts-are = rw is (rw place all-read) }
+      next : Least (lastOf (suc (suc (left - 1))) weights) (Open spare′ each′ (lastOf (suc (suc (left - 1))) extents)) (some (lastOf (suc (suc (left - 1))) (walk .whole)))
+      next = rw (all-left, ea, ee) (next-least b e)
+
+  -- the last two cuts are read
+  pub walk-end : (b c : ℕ) → left ≡ 0 → b ≡ r % 8192 → c ≡ spareAfter spare each b →
+      Chosen p extents weights true cost (set (set cuts (length extents - 2) b) (length extents - 1) c)
+  walk-end b c none-left e f =
+      let is : cheapest p extents weights ≡ some (walk .whole) =
+      cheapest-of-least p extents weights (some (walk .whole)) (omega (arith, walk .ask .within)) (walk .chosen) in
+      record { ok-is = rw is; cost-is = rw is (walk .cost-is); cuts-are = rw is all-read }
     where
-      agree : (i : ℕ) → Dec (length extents ≤ i) →
-          getD (set cuts (length extents - suc left) b) i 0 ≡ getD (walk .whole ++ replicate (5 - length (walk .whole)) 0) i 0
-      agree i (no h) =
-          read-one b e i (omega (arith, none-left)) ∙ sym (List·getD-append (walk .whole) (replicate (5 - length (walk .whole)) 0) 0 i (omega (arith, whole-length)))
-      agree i (yes h) =
-          let split : length (walk .whole) + (i - length (walk .whole)) ≡ i = omega (arith, whole-length) in
-          unread-one b i (omega (arith, none-left))
-          ∙ sym (getD-zeros (5 - length (walk .whole)) (i - length (walk .whole)))
-          ∙ sym (getD-append-add (walk .whole) (replicate (5 - length (walk .whole)) 0) (i - length (walk .whole)) 0)
-          ∙ ap (λ (k : ℕ). getD (walk .whole ++ replicate (5 - length (walk .whole)) 0) k 0) split
+      place : length extents - 2 ≡ length extents - suc (suc left)
+      place = omega (arith, none-left)
 
-      lengths : length (set cuts (length extents - suc left) b) ≡ length (walk .whole ++ replicate (5 - length (walk .whole)) 0)
-      lengths =
-          let one = length-set cuts (length extents - suc left) b in
-          let two = length-append (walk .whole) (replicate (5 - length (walk .whole)) 0) in
-          let three = length-replicate {A = ℕ} (5 - length (walk .whole)) 0 in
-          omega (arith, walk .five, whole-length, walk .ask .five)
+      one-least : Least (lastOf 1 weights) (Open (spareAfter spare each b) (eachAfter each b) (lastOf 1 extents)) (some (lastOf 1 (walk .whole)))
+      one-least =
+          subst (λ (k : ℕ). Least (lastOf (suc k) weights) (Open (spareAfter spare each b) (eachAfter each b) (lastOf (suc k) extents)) (some (lastOf (suc k) (walk .whole))))
+          none-left (next-least b e)
 
-      all-read : set cuts (length extents - suc left) b ≡ walk .whole ++ replicate (5 - length (walk .whole)) 0
-      all-read = ext-getD 0 (set cuts (length extents - suc left) b) (walk .whole ++ replicate (5 - length (walk .whole)) 0) lengths (λ i h. agree i (decLe (length extents) i))
+      one-extent : lastOf 1 extents ≡ getD extents (length extents - 1) 0 ∷ []
+      one-extent = lastOf-suc 0 extents (omega (arith, walk .ask .within)) ∙ ap (λ (l : List ℕ). getD extents (length extents - 1) 0 ∷ l) (lastOf-zero extents)
+
+      one-cut : lastOf 1 (walk .whole) ≡ getD (walk .whole) (length extents - 1) 0 ∷ []
+      one-cut = whole-suc 0 (omega (arith, walk .ask .within)) ∙ ap (λ (l : List ℕ). getD (walk .whole) (length extents - 1) 0 ∷ l) (lastOf-zero (walk .whole))
+
+      last-cut : c ≡ getD (walk .whole) (length extents - 1) 0
+      last-cut =
+          f ∙ sym (least-one (spareAfter spare each b) (eachAfter each b) (getD extents (length extents - 1) 0) (getD (walk .whole) (length extents - 1) 0) (lastOf 1 weights)
+          (spare-pos divisors (spareAfter spare each b) (eachAfter each b) (walk .ask .divided) (posed-after divisors spare each (walk .ask .divided) (walk .ask .posed) b))
+          (rw (one-extent, one-cut) at one-least))
+
+      all-read : set (set cuts (length extents - 2) b) (length extents - 1) c ≡ walk .whole ++ replicate (5 - length (walk .whole)) 0
+      all-read =
+          let one-more : suc (length extents - suc (suc left)) ≡ length extents - 1 = omega (arith, none-left, walk .ask .within) in
+          let whole-read : suc (length extents - 1) ≡ length (walk .whole) = omega (arith, whole-length, walk .ask .within) in
+          read-all (walk .whole) (set (set cuts (length extents - 2) b) (length extents - 1) c) (omega (arith, whole-length, walk .ask .five))
+          (subst (λ (k : ℕ). Read (walk .whole) (set (set cuts (length extents - 2) b) (length extents - 1) c) k) whole-read
+          (read-set (walk .whole) (set cuts (length extents - 2) b) (length extents - 1) c (omega (arith, walk .ask .five, walk .ask .within)) last-cut
+          (subst (λ (k : ℕ). Read (walk .whole) (set cuts (length extents - 2) b) k) one-more (read-next (length extents - 2) b place e))))
 
 -- nothing is found
-pub chosen-none : (p : ℕ) (extents weights : List ℕ) (left r : ℕ) → Job p extents weights → left ≡ length extents - 1 → r ≡ 2 ^ 63 →
-    Answers (Open p p (lastOf (suc left) extents)) (lastOf (suc left) weights) r → Chosen p extents weights false 0 (replicate 5 0)
+pub chosen-none : (p : ℕ) (extents weights : List ℕ) (left r : ℕ) → Job p extents weights → left ≡ length extents - 2 → r ≡ 2 ^ 63 →
+    Answers (Open 1 p (lastOf (suc (suc left)) extents)) (lastOf (suc (suc left)) weights) r → Chosen p extents weights false 0 (replicate 5 0)
 chosen-none p extents weights left r job at e h =
-    let all-extents = lastOf-whole (length extents) left extents (some-dimension p extents weights job) at refl in
-    let all-weights = lastOf-whole (length extents) left weights (some-dimension p extents weights job) at (job .weights-too) in
-    let none-open = answers-none-of (Open p p extents) weights r (omega (arith, job .range .d-high, job .weights-too)) e (rw (all-extents, all-weights) at h) in
-    let is : cheapest p extents weights ≡ none = cheapest-of-least p extents weights none (some-dimension p extents weights job) none-open in
+    let all-extents = all-dimensions (length extents) left extents (job .range .d-low) at refl in
+    let all-weights = all-dimensions (length extents) left weights (job .range .d-low) at (job .weights-too) in
+    let none-open = answers-none-of (Open 1 p extents) weights r (omega (arith, job .range .d-high, job .weights-too)) e (rw (all-extents, all-weights) at h) in
+    let is : cheapest p extents weights ≡ none = cheapest-of-least p extents weights none (omega (arith, job .range .d-low)) none-open in
     record { ok-is = rw is; cost-is = rw is; cuts-are = rw is }
 
 -- ---- what the search starts from
 
 pub ready-searchable : (p : ℕ) (extents weights divisors places known : List ℕ) → Ready p extents weights divisors → Remembers extents weights divisors places known →
-    Searchable extents weights divisors places known (length extents - 1) p p
+    Searchable extents weights divisors places known (length extents - 2) 1 p
 ready-searchable p extents weights divisors places known ready memory =
     record {
       five = ready .job .range .d-high;
       weights-too = ready .job .weights-too;
       within = omega (arith, ready .job .range .d-low);
       divided = ready .divided;
-      posed = record { one = ready .one; shared = dvd-refl p };
+      posed = record { one = subst⁻¹ (λ (n : ℕ). Among divisors (length divisors) n) (one-mul p) (ready .one) };
       memory = memory;
     }
 

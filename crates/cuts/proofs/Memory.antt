@@ -3,7 +3,7 @@
 use mathlib.Core.Path.{_≡_, refl, sym, _∙_, ap, subst, subst⁻¹}
 use mathlib.Core.Logic.{inl, inr, ⊎-elim, _≢_}
 use mathlib.Core.List.{List, []}
-use Prim.Native.Nat.{ℕ, zero, suc, _+_, _-_, _*_, _≤_, _<_}
+use Prim.Native.Nat.{ℕ, zero, suc, _+_, _*_, _≤_, _<_}
 use native.Mathlib.Nat.{mul-le-mul-right, not-suc-le-zero}
 use native.Mathlib.Decide.{decLe, ℕ-discrete}
 use native.Mathlib.Omega.{arith}
@@ -12,6 +12,7 @@ use lib.Seq.{set-out, getD-set-same, getD-set-other}
 use Rattle.cuts.specs.Questions.{Open, lastOf, Among, Divisors}
 use Rattle.cuts.specs.Answers.{Answers}
 use Rattle.cuts.specs.Memory.{Question, Kept, Placed, slotOf, Right, Remembers}
+use Rattle.cuts.proofs.Questions.{spare-one, each-one}
 
 -- ---- each question has a place of its own
 
@@ -44,23 +45,25 @@ module _ (divisors places : List ℕ) (placed : Placed divisors places) where
       slotOf places (length divisors) q ≡ slotOf places (length divisors) s → q ≡ s
   unfolding slotOf
   slot-unique q s d h k e =
-      let q-each = d .closed (q .all) (q .each) (h .1 .one) (h .1 .shared) in
-      let s-each = d .closed (s .all) (s .each) (k .1 .one) (k .1 .shared) in
-      let outer = digits-unique (length divisors) ((q .left - 1) * length divisors + getD places (q .all) 0) ((s .left - 1) * length divisors + getD places (s .all) 0)
+      let q-spare = spare-one divisors (q .spare) (q .each) d h in
+      let s-spare = spare-one divisors (s .spare) (s .each) d k in
+      let q-each = each-one divisors (q .spare) (q .each) d h in
+      let s-each = each-one divisors (s .spare) (s .each) d k in
+      let outer = digits-unique (length divisors) (q .left * length divisors + getD places (q .spare) 0) (s .left * length divisors + getD places (s .spare) 0)
       (getD places (q .each) 0) (getD places (s .each) 0) (place-below (q .each) q-each) (place-below (s .each) s-each) e in
-      let inner = digits-unique (length divisors) (q .left - 1) (s .left - 1) (getD places (q .all) 0) (getD places (s .all) 0)
-      (place-below (q .all) (h .1 .one)) (place-below (s .all) (k .1 .one)) (outer .0) in
-      let same-left : q .left ≡ s .left = omega (arith, inner .0, h .0, k .0) in
-      let same-all : q .all ≡ s .all = place-unique (q .all) (s .all) (h .1 .one) (k .1 .one) (inner .1) in
+      let inner = digits-unique (length divisors) (q .left) (s .left) (getD places (q .spare) 0) (getD places (s .spare) 0)
+      (place-below (q .spare) q-spare) (place-below (s .spare) s-spare) (outer .0) in
+      let same-left : q .left ≡ s .left = inner .0 in
+      let same-spare : q .spare ≡ s .spare = place-unique (q .spare) (s .spare) q-spare s-spare (inner .1) in
       let same-each : q .each ≡ s .each = place-unique (q .each) (s .each) q-each s-each (outer .1) in
-      same q s same-left same-all same-each
+      same q s same-left same-spare same-each
     where
       question : ℕ → ℕ → ℕ → Question
-      question left all each = record { left = left; all = all; each = each }
+      question left spare each = record { left = left; spare = spare; each = each }
 
-      same : (q s : Question) → q .left ≡ s .left → q .all ≡ s .all → q .each ≡ s .each → q ≡ s
+      same : (q s : Question) → q .left ≡ s .left → q .spare ≡ s .spare → q .each ≡ s .each → q ≡ s
       same q s e f g =
-          ap (λ (n : ℕ). question n (q .all) (q .each)) e ∙ ap (λ (n : ℕ). question (s .left) n (q .each)) f ∙ ap (λ (n : ℕ). question (s .left) (s .all) n) g
+          ap (λ (n : ℕ). question n (q .spare) (q .each)) e ∙ ap (λ (n : ℕ). question (s .left) n (q .each)) f ∙ ap (λ (n : ℕ). question (s .left) (s .spare) n) g
 
 -- ---- nothing is remembered yet
 
@@ -81,10 +84,10 @@ remembers-zeros extents weights divisors places n d placed =
 
 module _ (extents weights divisors places known : List ℕ) (q : Question) (kept : Kept divisors q) (memory : Remembers extents weights divisors places known) where
   pub recalled : (r : ℕ) → r ≡ getD known (slotOf places (length divisors) q) 0 → r ≢ 0 →
-      Answers (Open (q .all) (q .each) (lastOf (suc (q .left)) extents)) (lastOf (suc (q .left)) weights) r
+      Answers (Open (q .spare) (q .each) (lastOf (suc (suc (q .left))) extents)) (lastOf (suc (suc (q .left))) weights) r
   recalled r e h = ⊎-elim (λ z. absurd (h z)) (λ a. a) (subst⁻¹ (λ (n : ℕ). Right extents weights q n) e (memory .right q kept))
 
-  pub remembers-set : (r : ℕ) → Answers (Open (q .all) (q .each) (lastOf (suc (q .left)) extents)) (lastOf (suc (q .left)) weights) r →
+  pub remembers-set : (r : ℕ) → Answers (Open (q .spare) (q .each) (lastOf (suc (suc (q .left))) extents)) (lastOf (suc (suc (q .left))) weights) r →
       Remembers extents weights divisors places (set known (slotOf places (length divisors) q) r)
   remembers-set r answer = go (decLe (length known) (slotOf places (length divisors) q))
     where

@@ -3,20 +3,20 @@
 use mathlib.Core.Path.{_≡_}
 use mathlib.Core.List.{List}
 use mathlib.Core.Logic.{_⊎_}
-use Prim.Native.Nat.{ℕ, suc, _+_, _-_, _*_, _<_}
+use Prim.Native.Nat.{ℕ, suc, _+_, _*_, _<_}
 use lib.ListN.{length, getD}
 use Rattle.cuts.specs.Questions.{Open, lastOf, Posed}
 use Rattle.cuts.specs.Answers.{Answers}
 
--- the question (all, each), with `left` dimensions after the first
+-- the question (spare, each), with `left` dimensions before the last two
 pub record Question : Type 0 where
   pub left : ℕ
-  pub all : ℕ
+  pub spare : ℕ
   pub each : ℕ
 
--- a question that can come up and is not yet that of the last dimension
+-- a question that can come up
 abbrev pub Kept : List ℕ → Question → Type 0
-Kept divisors q = (0 < q .left) × Posed divisors (q .all) (q .each)
+Kept divisors q = Posed divisors (q .spare) (q .each)
 
 -- every divisor has its place among the divisors
 abbrev pub Placed : List ℕ → List ℕ → Type 0
@@ -24,11 +24,11 @@ Placed divisors places = (i : ℕ) → i < length divisors → getD places (getD
 
 -- the place of the answer to a question, where there are `count` divisors
 unfoldable pub slotOf : List ℕ → ℕ → Question → ℕ
-slotOf places count q = ((q .left - 1) * count + getD places (q .all) 0) * count + getD places (q .each) 0
+slotOf places count q = (q .left * count + getD places (q .spare) 0) * count + getD places (q .each) 0
 
 -- r answers a question, or says that the answer is not yet known
 abbrev pub Right : List ℕ → List ℕ → Question → ℕ → Type 0
-Right extents weights q r = (r ≡ 0) ⊎ Answers (Open (q .all) (q .each) (lastOf (suc (q .left)) extents)) (lastOf (suc (q .left)) weights) r
+Right extents weights q r = (r ≡ 0) ⊎ Answers (Open (q .spare) (q .each) (lastOf (suc (suc (q .left))) extents)) (lastOf (suc (suc (q .left))) weights) r
 
 -- what `known` has is right, and has room for one question only at each place
 pub record Remembers (extents weights divisors places known : List ℕ) : Type 0 where

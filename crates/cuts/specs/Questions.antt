@@ -1,29 +1,32 @@
 -- The question that is left once some cuts are chosen (document 01, "Choosing the cuts": "Cuts are chosen dimension after dimension, each
--- choice leaving the same question for one dimension fewer"). It is two numbers: `all` must divide the product of the remaining cuts, and
--- `each` the product of all of them but any one. At the start both are p.
+-- choice leaving the same question for one dimension fewer"). It is two numbers: `each` must divide the product of all remaining cuts but any
+-- one, and `spare` times `each` the product of them all. At the start they are p and 1.
 use mathlib.Core.Path.{_≡_}
 use mathlib.Core.List.{List}
-use Prim.Native.Nat.{ℕ, _-_, _/_, _∣_, _≤_, _<_}
+use Prim.Native.Nat.{ℕ, _-_, _*_, _/_, _∣_, _≤_, _<_}
 use lib.ListN.{length, getD, drop}
 use Rattle.numbers.specs.Gcd.{gcd}
 use Rattle.numbers.specs.Products.{product}
-use Rattle.numbers.proofs.Lcm.{lcm}
 use Rattle.multipartition.specs.Cuts.{Even, Fits}
 
 -- the cuts of which the question holds
 abbrev pub Wanted : ℕ → ℕ → List ℕ → Type 0
-Wanted all each cuts = (all ∣ product cuts) × Even each cuts
+Wanted spare each cuts = (spare * each ∣ product cuts) × Even each cuts
 
 -- the question after a cut b
-unfoldable pub allAfter : ℕ → ℕ → ℕ → ℕ
-allAfter all each b = lcm (all / gcd all b) each
+unfoldable pub spareAfter : ℕ → ℕ → ℕ → ℕ
+spareAfter spare each b = gcd each b * (spare / gcd spare b)
 
 unfoldable pub eachAfter : ℕ → ℕ → ℕ
 eachAfter each b = each / gcd each b
 
+-- what the last two cuts make up between them, besides `each` in both
+unfoldable pub unshared : ℕ → ℕ → ℕ
+unshared spare each = spare / gcd spare each
+
 -- the cuts that a search looks among: those that fit, and of which the question holds
 abbrev pub Open : ℕ → ℕ → List ℕ → List ℕ → Type 0
-Open all each extents cuts = Fits extents cuts × Wanted all each cuts
+Open spare each extents cuts = Fits extents cuts × Wanted spare each cuts
 
 -- the last k numbers: those of the last k dimensions
 unfoldable pub lastOf : ℕ → List ℕ → List ℕ
@@ -42,6 +45,5 @@ pub record Divisors (divisors : List ℕ) : Type 0 where
   pub closed : (x b : ℕ) → Among divisors (length divisors) x → b ∣ x → Among divisors (length divisors) b
 
 -- a question that can come up
-pub record Posed (divisors : List ℕ) (all each : ℕ) : Type 0 where
-  pub one : Among divisors (length divisors) all
-  pub shared : each ∣ all
+pub record Posed (divisors : List ℕ) (spare each : ℕ) : Type 0 where
+  pub one : Among divisors (length divisors) (spare * each)

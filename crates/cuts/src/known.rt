@@ -1,7 +1,7 @@
 // The answers that a search remembers, in a lent list that may be empty.
 ghost use mathlib.Core.Path.{_≡_};
 ghost use Prim.Native.Nat.{_≤_, _<_};
-ghost use lib.ListN.{getD, set};
+ghost use lib.ListN.{length, getD, set};
 ghost use Rattle.cuts.specs.Questions.{Divisors};
 ghost use Rattle.cuts.specs.Memory.{Placed, slotOf};
 
@@ -16,12 +16,12 @@ fn place_of(places: &[u8], x: u32) -> usize
     0
 }
 
-// The place of the answer to the question (all, each) with `left` dimensions after the first, where there are `count` divisors.
-pub fn slot(places: &[u8], count: usize, left: usize, all: u32, each: u32) -> usize
-    requires { ⌜ (0 < left) × (left < 5) × (count ≤ 128) ⌝ }
-    ensures { λ r. ⌜ r ≡ slotOf (now (places .entry)) count (record { left = left; all = all; each = each }) ⌝ }
+// The place of the answer to the question (spare, each) with `left` dimensions before the last two, where there are `count` divisors.
+pub fn slot(places: &[u8], count: usize, left: usize, spare: u32, each: u32) -> usize
+    requires { ⌜ (left < 4) × (count ≤ 128) ⌝ }
+    ensures { λ r. ⌜ r ≡ slotOf (now (places .entry)) count (record { left = left; spare = spare; each = each }) ⌝ }
 {
-    ((left - 1) * count + place_of(places, all)) * count + place_of(places, each)
+    (left * count + place_of(places, spare)) * count + place_of(places, each)
 }
 
 // What is remembered at a place; 0 where nothing is, and past the end.
@@ -43,17 +43,15 @@ pub fn keep(known: &mut [u64], at: usize, x: u64)
     }
 }
 
-// The place of each divisor among the divisors.
-pub fn places_of(divisors: &[u32]) -> [u8; 4097]
-    requires { ⌜ Divisors (now divisors) ⌝ }
-    ensures { λ r. ⌜ Placed (now (divisors .entry)) r ⌝ }
+// Sets the place of each divisor among the divisors, in a list of zeros or any other.
+pub fn set_places(divisors: &[u32], places: &mut [u8])
+    requires { ⌜ Divisors (now divisors) × (4096 < length (now places)) ⌝ }
+    ensures { λ r. ⌜ Placed (now (divisors .entry)) (now (places .exit)) ⌝ }
 {
-    let mut places = [0u8; 4097];
     let mut j = 0;
     while j < divisors.len() {
         let at = divisors[j] as usize;
         places[at] = j as u8;
         j += 1;
     }
-    places
 }

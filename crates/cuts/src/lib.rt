@@ -3,11 +3,11 @@ ghost use mathlib.Core.Path.{_≡_};
 ghost use Prim.Native.Nat.{_%_};
 ghost use Rattle.cuts.specs.Memory.{Remembers};
 ghost use Rattle.cuts.specs.Found.{Job, Chosen, Ready};
-use crate::known::places_of;
-use crate::question::all_after;
-use crate::question::each_after;
+use crate::known::set_places;
+use crate::question::spare_after;
 use crate::search::NOTHING;
 use crate::search::search;
+use numbers::euclid::gcd;
 use numbers::factors::divisors;
 
 pub mod known; // known.rt: the answers that a search remembers
@@ -29,6 +29,7 @@ fn cut_of(r: u64) -> u32
 }
 
 // The cuts chosen, one dimension after the other: an answer has the first cut, and that cut leaves the question for the next.
+// What is spare after the last but one is the last.
 fn chosen_cuts(
     p: u32,
     extents: &[u32],
@@ -40,10 +41,10 @@ fn chosen_cuts(
     requires { ⌜ Ready p (now extents) (now weights) (now divisors) × Remembers (now extents) (now weights) (now divisors) (now places) (now known) ⌝ }
     ensures { λ r. ⌜ Chosen p (now (extents .entry)) (now (weights .entry)) (r .ok) (r .cost) (r .cuts) ⌝ }
 {
-    let mut left = extents.len() - 1;
-    let mut all = p;
+    let mut left = extents.len() - 2;
+    let mut spare = 1;
     let mut each = p;
-    let mut r = search(extents, weights, divisors, places, known, left, all, each);
+    let mut r = search(extents, weights, divisors, places, known, left, spare, each);
     if r == NOTHING {
         return Found {
             ok: false,
@@ -55,13 +56,16 @@ fn chosen_cuts(
     let mut cuts = [0u32; 5];
     while 0 < left {
         let b = cut_of(r);
-        cuts[extents.len() - left - 1] = b;
-        all = all_after(all, each, b);
-        each = each_after(each, b);
+        cuts[extents.len() - left - 2] = b;
+        let g = gcd(each, b);
+        spare = spare_after(spare, b, g);
+        each = each / g;
         left -= 1;
-        r = search(extents, weights, divisors, places, known, left, all, each);
+        r = search(extents, weights, divisors, places, known, left, spare, each);
     }
-    cuts[extents.len() - 1] = cut_of(r);
+    let b = cut_of(r);
+    cuts[extents.len() - 2] = b;
+    cuts[extents.len() - 1] = spare_after(spare, b, gcd(each, b));
     Found {
         ok: true,
         cost: cost,
@@ -79,13 +83,18 @@ fn without_memory(p: u32, extents: &[u32], weights: &[u32], divisors: &[u32]) ->
     chosen_cuts(p, extents, weights, divisors, &places, &mut known)
 }
 
-// The cuts of a job of more dimensions. No count up to 4,096 has more than 48 divisors: the list has room for all questions of the last three
-// dimensions.
+// The cuts of a job of more dimensions. The list has room for all questions of the last three dimensions: 2 · 16 · 16 numbers for few
+// divisors, else 2 · 48 · 48, since no count up to 4,096 has more than 48.
 fn with_memory(p: u32, extents: &[u32], weights: &[u32], divisors: &[u32]) -> Found
     requires { ⌜ Ready p (now extents) (now weights) (now divisors) ⌝ }
     ensures { λ r. ⌜ Chosen p (now (extents .entry)) (now (weights .entry)) (r .ok) (r .cost) (r .cuts) ⌝ }
 {
-    let places = places_of(divisors);
+    let mut places = [0u8; 4097];
+    set_places(divisors, &mut places);
+    if divisors.len() <= 16 {
+        let mut known = [0u64; 512];
+        return chosen_cuts(p, extents, weights, divisors, &places, &mut known);
+    }
     let mut known = [0u64; 4608];
     chosen_cuts(p, extents, weights, divisors, &places, &mut known)
 }

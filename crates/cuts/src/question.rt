@@ -1,22 +1,22 @@
 // The question that a cut leaves for the dimensions after it.
 ghost use mathlib.Core.Path.{_≡_};
-ghost use Prim.Native.Nat.{_<_, _∣_};
-ghost use Rattle.cuts.specs.Questions.{allAfter, eachAfter};
+ghost use Prim.Native.Nat.{_*_, _/_, _≤_, _<_};
+ghost use Rattle.numbers.specs.Gcd.{gcd as theGcd};
+ghost use Rattle.cuts.specs.Questions.{unshared};
 use numbers::euclid::gcd;
 
-// What the product of the remaining cuts must be a multiple of, after a cut b that divides `all`.
-pub fn all_after(all: u32, each: u32, b: u32) -> u32
-    requires { ⌜ (0 < all) × (each ∣ all) × (b ∣ all) ⌝ }
-    ensures { λ r. ⌜ r ≡ allAfter all each b ⌝ }
+// What is spare after a cut b that takes g of `each`.
+pub fn spare_after(spare: u32, b: u32, g: u32) -> u32
+    requires { ⌜ (0 < spare) × (g * spare ≤ 4096) ⌝ }
+    ensures { λ r. ⌜ r ≡ g * (spare / theGcd spare b) ⌝ }
 {
-    let q = all / b;
-    q * (each / gcd(each, q))
+    g * (spare / gcd(spare, b))
 }
 
-// What the product of all remaining cuts but any one must be a multiple of, after a cut b.
-pub fn each_after(each: u32, b: u32) -> u32
-    requires { ⌜ 0 < each ⌝ }
-    ensures { λ r. ⌜ r ≡ eachAfter each b ⌝ }
+// What the last two cuts make up between them, besides `each` in both.
+pub fn unshared(spare: u32, each: u32) -> u32
+    requires { ⌜ 0 < spare ⌝ }
+    ensures { λ r. ⌜ r ≡ unshared spare each ⌝ }
 {
-    each / gcd(each, b)
+    spare / gcd(spare, each)
 }

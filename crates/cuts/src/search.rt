@@ -1,5 +1,5 @@
 // The cut search: cuts are chosen dimension after dimension, each choice leaving the same question for one dimension fewer. An answer is a
-// number: the cost times 8192 and the first cut. Only divisors of `all` are tried, in rising order, so that among equal costs the smaller first cut stays.
+// number: the cost times 8192, and the first cut. Cuts are tried in rising order, so that among equal costs the smaller first cut stays.
 ghost use mathlib.Core.Path.{_≡_};
 ghost use mathlib.Core.List.{[], _∷_};
 ghost use mathlib.Core.Logic.{_⊎_};
@@ -7,12 +7,13 @@ ghost use Prim.Native.Nat.{suc, _+_, _-_, _*_, _^_, _≤_, _<_};
 ghost use lib.ListN.{length, getD};
 ghost use Rattle.cuts.specs.Questions.{Open, lastOf};
 ghost use Rattle.cuts.specs.Answers.{cutCost, uncutCost, inFront, Answers, Smaller};
-ghost use Rattle.cuts.specs.Search.{Begun, FitsIn, MayBegin, Stops, Searchable, Cuttable, Searched};
+ghost use Rattle.cuts.specs.Search.{Begun, Second, FitsIn, Stops, TwoLeft, Searchable, Cuttable, Searched};
 use crate::known::keep;
 use crate::known::recall;
 use crate::known::slot;
-use crate::question::all_after;
-use crate::question::each_after;
+use crate::question::spare_after;
+use crate::question::unshared;
+use numbers::euclid::gcd;
 
 // The answer where there are no cuts, 2^63: larger than any other.
 pub const NOTHING: u64 = 9223372036854775808;
@@ -53,34 +54,19 @@ fn uncut_cost(weights: &[u32], left: usize) -> u64
     sum
 }
 
-// The answer for the last dimension: its cut is `all`, if that fits, and nothing more may be asked.
-fn last_cut(n: u32, w: u32, all: u32, each: u32) -> u64
-    requires { ⌜ (0 < all) × (all ≤ 4096) ⌝ }
-    ensures { λ r. ⌜ Answers (Open all each (n ∷ [])) (w ∷ []) r ⌝ }
+// The answer for the second of the last two dimensions, where the first is cut by t times `each`: its cut is q / t times `each`.
+fn second_cut(m: u32, x: u32, q: u32, each: u32, t: u32) -> u64
+    requires { ⌜ (0 < each) × (0 < q) × (0 < t) × (each * q ≤ 4096) ⌝ }
+    ensures { λ r. ⌜ Answers (Second q each t (m ∷ [])) (x ∷ []) r ⌝ }
 {
-    if each != 1 {
+    if q % t != 0 {
         return NOTHING;
     }
-    if !fits_in(all, n) {
+    let b = each * (q / t);
+    if !fits_in(b, m) {
         return NOTHING;
     }
-    cut_cost(all, w) * 8192 + all as u64
-}
-
-// Whether a cut b may begin cuts that are wanted. It divides `all`; with one dimension after it, `each` divides it.
-fn may_begin(left: usize, all: u32, each: u32, b: u32) -> bool
-    requires { ⌜ (0 < each) × (0 < b) ⌝ }
-    ensures { λ r. ⌜ MayBegin left all each b r ⌝ }
-{
-    if left == 1 {
-        if b % each != 0 {
-            return false;
-        }
-    }
-    if all % b != 0 {
-        return false;
-    }
-    true
+    cut_cost(b, x) * 8192 + b as u64
 }
 
 // The answer r with a cut b in front, in a dimension of weight w.
@@ -94,7 +80,7 @@ fn in_front(r: u64, b: u32, w: u32) -> u64
     (r / 8192 + cut_cost(b, w)) * 8192 + b as u64
 }
 
-// Whether b and all larger cuts can be left out: they don't fit in n, don't divide `all`, or cost at least c, and `best` costs no more.
+// Whether b and all larger cuts can be left out: they don't fit in n, are above the product `all` asked for, or cost at least c, and `best` costs no more.
 fn stops(b: u32, n: u32, all: u32, c: u64, best: u64) -> bool
     ensures { λ r. ⌜ Stops b n all c best r ⌝ }
 {
@@ -117,7 +103,32 @@ fn smaller(x: u64, y: u64) -> u64
     x
 }
 
-// The answer among the cuts that begin with b, with `left` dimensions after it.
+// The answer for the last two dimensions.
+fn last_two(extents: &[u32], weights: &[u32], divisors: &[u32], spare: u32, each: u32) -> u64
+    requires { ⌜ TwoLeft (now extents) (now weights) (now divisors) spare each ⌝ }
+    ensures { λ r. ⌜ Answers (Open spare each (lastOf 2 (now (extents .entry)))) (lastOf 2 (now (weights .entry))) r ⌝ }
+{
+    let n = first_of(extents, 1);
+    let m = first_of(extents, 0);
+    let w = first_of(weights, 1);
+    let x = first_of(weights, 0);
+    let q = unshared(spare, each);
+    let rest = cut_cost(1, x);
+    let mut best = NOTHING;
+    let mut i = 0;
+    while i < divisors.len() {
+        let t = divisors[i];
+        let b = each * t;
+        if stops(b, n, each * q, cut_cost(b, w) + rest, best) {
+            return best;
+        }
+        best = smaller(best, in_front(second_cut(m, x, q, each, t), b, w));
+        i += 1;
+    }
+    best
+}
+
+// The answer among the cuts that begin with b.
 fn with_cut(
     extents: &[u32],
     weights: &[u32],
@@ -125,16 +136,17 @@ fn with_cut(
     places: &[u8],
     known: &mut [u64],
     left: usize,
-    all: u32,
+    spare: u32,
     each: u32,
     b: u32,
 ) -> u64
-    requires { ⌜ Searchable (now extents) (now weights) (now divisors) (now places) (now known) left all each × Cuttable (now extents) left b ⌝ }
-    ensures { λ r. ⌜ Searched (Begun all each b (lastOf (suc left) (now (extents .entry)))) (now (extents .entry)) (now (weights .entry)) (now (divisors .entry)) (now (places .entry)) (now (known .exit)) left r ⌝ }
+    requires { ⌜ Searchable (now extents) (now weights) (now divisors) (now places) (now known) left spare each × Cuttable (now extents) left b ⌝ }
+    ensures { λ r. ⌜ Searched (Begun spare each b (lastOf (suc (suc left)) (now (extents .entry)))) (now (extents .entry)) (now (weights .entry)) (now (divisors .entry)) (now (places .entry)) (now (known .exit)) left r ⌝ }
 {
-    if !may_begin(left, all, each, b) {
+    if spare * each % b != 0 {
         return NOTHING;
     }
+    let g = gcd(each, b);
     let r = search(
         extents,
         weights,
@@ -142,13 +154,14 @@ fn with_cut(
         places,
         known,
         left - 1,
-        all_after(all, each, b),
-        each_after(each, b),
+        spare_after(spare, b, g),
+        each / g,
     );
-    in_front(r, b, first_of(weights, left))
+    in_front(r, b, first_of(weights, left + 1))
 }
 
-// The answer with `left` dimensions after the first, which may be cut by any divisor.
+// The answer to the question (spare, each) for the last dimensions, of which `left` stand before the last two: with none left, at once; else
+// by trying the divisors as the first cut, each leaving the same question for one dimension fewer.
 fn choose(
     extents: &[u32],
     weights: &[u32],
@@ -156,20 +169,23 @@ fn choose(
     places: &[u8],
     known: &mut [u64],
     left: usize,
-    all: u32,
+    spare: u32,
     each: u32,
 ) -> u64
-    requires { ⌜ Searchable (now extents) (now weights) (now divisors) (now places) (now known) left all each × (0 < left) ⌝ }
-    ensures { λ r. ⌜ Searched (Open all each (lastOf (suc left) (now (extents .entry)))) (now (extents .entry)) (now (weights .entry)) (now (divisors .entry)) (now (places .entry)) (now (known .exit)) left r ⌝ }
+    requires { ⌜ Searchable (now extents) (now weights) (now divisors) (now places) (now known) left spare each ⌝ }
+    ensures { λ r. ⌜ Searched (Open spare each (lastOf (suc (suc left)) (now (extents .entry)))) (now (extents .entry)) (now (weights .entry)) (now (divisors .entry)) (now (places .entry)) (now (known .exit)) left r ⌝ }
 {
-    let n = first_of(extents, left);
-    let w = first_of(weights, left);
-    let rest = uncut_cost(weights, left);
+    if left == 0 {
+        return last_two(extents, weights, divisors, spare, each);
+    }
+    let n = first_of(extents, left + 1);
+    let w = first_of(weights, left + 1);
+    let rest = uncut_cost(weights, left + 1);
     let mut best = NOTHING;
     let mut j = 0;
     while j < divisors.len() {
         let b = divisors[j];
-        if stops(b, n, all, cut_cost(b, w) + rest, best) {
+        if stops(b, n, spare * each, cut_cost(b, w) + rest, best) {
             return best;
         }
         best = smaller(
@@ -181,7 +197,7 @@ fn choose(
                 places,
                 known,
                 left,
-                all,
+                spare,
                 each,
                 b,
             ),
@@ -191,8 +207,7 @@ fn choose(
     best
 }
 
-// The answer to the question (all, each) for the last dimensions, of which `left` stand after the first: found among the answers that are
-// known, or by trying the cuts of the first, or, with none left, at once.
+// The same answer, which is looked up first and remembered.
 pub fn search(
     extents: &[u32],
     weights: &[u32],
@@ -200,21 +215,18 @@ pub fn search(
     places: &[u8],
     known: &mut [u64],
     left: usize,
-    all: u32,
+    spare: u32,
     each: u32,
 ) -> u64
-    requires { ⌜ Searchable (now extents) (now weights) (now divisors) (now places) (now known) left all each ⌝ }
-    ensures { λ r. ⌜ Searched (Open all each (lastOf (suc left) (now (extents .entry)))) (now (extents .entry)) (now (weights .entry)) (now (divisors .entry)) (now (places .entry)) (now (known .exit)) left r ⌝ }
+    requires { ⌜ Searchable (now extents) (now weights) (now divisors) (now places) (now known) left spare each ⌝ }
+    ensures { λ r. ⌜ Searched (Open spare each (lastOf (suc (suc left)) (now (extents .entry)))) (now (extents .entry)) (now (weights .entry)) (now (divisors .entry)) (now (places .entry)) (now (known .exit)) left r ⌝ }
 {
-    if left == 0 {
-        return last_cut(first_of(extents, 0), first_of(weights, 0), all, each);
-    }
-    let at = slot(places, divisors.len(), left, all, each);
+    let at = slot(places, divisors.len(), left, spare, each);
     let before = recall(known, at);
     if before != 0 {
         return before;
     }
-    let r = choose(extents, weights, divisors, places, known, left, all, each);
+    let r = choose(extents, weights, divisors, places, known, left, spare, each);
     keep(known, at, r);
     r
 }

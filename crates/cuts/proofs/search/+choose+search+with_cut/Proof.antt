@@ -1,23 +1,26 @@
--- The cycle of calls: `search` with `left` dimensions after the first calls `choose`, that calls `with_cut`, and that calls `search` with one
+-- The cycle of calls: `search` with `left` dimensions before the last two calls `choose`, that calls `with_cut`, and that calls `search` with one
 -- dimension fewer. The measures are 3 · left + 2, 3 · left + 1 and 3 · left. The steps are the laws of proofs/Steps.
-use mathlib.Core.Path.{_≡_, refl, _∙_, ap, ap₂, subst, subst⁻¹}
+use mathlib.Core.Path.{_≡_, refl, _∙_, ap, subst, subst⁻¹}
 use mathlib.Core.Bool.{Bool}
 use mathlib.Core.List.{List}
-use Prim.Native.Nat.{ℕ, suc, _+_, _-_, _^_, _≤_, _<_, zero-le}
-use native.Mathlib.Nat.{pos-of-ne-zero}
+use Prim.Native.Nat.{ℕ, suc, _+_, _-_, _*_, _/_, _^_, _≤_, _<_, zero-le}
+use native.Mathlib.Nat.{pos-of-ne-zero, mod-eq-zero-of-dvd, dvd-of-mod-eq-zero}
+use native.Mathlib.Numerals.{add-one}
 use native.Mathlib.Omega.{arith}
 use borrow.Author.Needs.{needs}
-use borrow.Author.Tests.{not-true, not-false}
 use lib.ListN.{length, getD, set}
+use Rattle.numbers.proofs.Gcd.{gcd-pos}
 use Rattle.cuts.specs.Questions.{Open, lastOf}
-use Rattle.cuts.specs.Search.{Begun, Tried, MayBegin, Stops, Searched}
 use Rattle.cuts.specs.Memory.{Remembers}
+use Rattle.cuts.specs.Search.{Begun, Tried, Stops, Searched}
 use Rattle.cuts.proofs.Questions as questions
 use Rattle.cuts.proofs.Answers as answers
+use Rattle.cuts.proofs.Tried as tried
 use Rattle.cuts.proofs.Memory as memory
 use Rattle.cuts.proofs.Steps as steps
 use borrow.Fn.Kinds.{In}
 use borrow.Fn.PlainCycle.{Measures, is, falls, and}
+use Rattle.numbers.proofs.euclid.gcd.Reads as gcd-reads
 use Rattle.cuts.proofs.search.choose.Reads as choose
 use Rattle.cuts.proofs.search.choose.Kinds as choose-kinds
 use Rattle.cuts.proofs.search.+choose+search+with_cut.Lts-choose as choose-lts
@@ -30,13 +33,11 @@ use Rattle.cuts.proofs.search.+choose+search+with_cut.Lts-with_cut as w
 use Rattle.cuts.proofs.known.keep.Reads as keep-reads
 use Rattle.cuts.proofs.known.recall.Reads as recall-reads
 use Rattle.cuts.proofs.known.slot.Reads as slot-reads
-use Rattle.cuts.proofs.question.all_after.Reads as all-after-reads
-use Rattle.cuts.proofs.question.each_after.Reads as each-after-reads
+use Rattle.cuts.proofs.question.spare_after.Reads as spare-after-reads
 use Rattle.cuts.proofs.search.cut_cost.Reads as cut-cost-reads
 use Rattle.cuts.proofs.search.first_of.Reads as first-of-reads
 use Rattle.cuts.proofs.search.in_front.Reads as in-front-reads
-use Rattle.cuts.proofs.search.last_cut.Reads as last-cut-reads
-use Rattle.cuts.proofs.search.may_begin.Reads as may-begin-reads
+use Rattle.cuts.proofs.search.last_two.Reads as last-two-reads
 use Rattle.cuts.proofs.search.smaller.Reads as smaller-reads
 use Rattle.cuts.proofs.search.stops.Reads as stops-reads
 use Rattle.cuts.proofs.search.uncut_cost.Reads as uncut-cost-reads
@@ -74,6 +75,8 @@ with-cut-below t = and 5 with-cut-kinds.ps (falls 5 with-cut-kinds.ps _<_ μ-wit
 -- the contracts of the functions that each calls
 abbrev choose-calls : ℕ → choose-lts.Claims
 choose-calls t = (
+  last-two-reads.Asked,
+  last-two-reads.Learnt,
   first-of-reads.Asked,
   first-of-reads.Learnt,
   uncut-cost-reads.Asked,
@@ -90,10 +93,6 @@ choose-calls t = (
 
 abbrev search-calls : ℕ → search-lts.Claims
 search-calls t = (
-  first-of-reads.Asked,
-  first-of-reads.Learnt,
-  last-cut-reads.Asked,
-  last-cut-reads.Learnt,
   slot-reads.Asked,
   slot-reads.Learnt,
   recall-reads.Asked,
@@ -106,12 +105,10 @@ search-calls t = (
 
 abbrev with-cut-calls : ℕ → with-cut-lts.Claims
 with-cut-calls t = (
-  may-begin-reads.Asked,
-  may-begin-reads.Learnt,
-  all-after-reads.Asked,
-  all-after-reads.Learnt,
-  each-after-reads.Asked,
-  each-after-reads.Learnt,
+  gcd-reads.Asked,
+  gcd-reads.Learnt,
+  spare-after-reads.Asked,
+  spare-after-reads.Learnt,
   search-below t,
   search′.Post,
   first-of-reads.Asked,
@@ -121,35 +118,66 @@ with-cut-calls t = (
 )
 
 abbrev choose-Inv-loop : choose-lts.InvT-loop
-choose-Inv-loop extents weights divisors places known₀ left all each n w rest best₀ j₀ known best j =
+choose-Inv-loop extents weights divisors places known₀ left spare each n w rest best₀ j₀ known best j =
     (j ≤ length divisors) × (length known ≡ length known₀)
-    × Searched (Tried divisors j all each (lastOf (suc left) extents)) extents weights divisors places known left best
+    × Searched (Tried divisors j spare each (lastOf (suc (suc left)) extents)) extents weights divisors places known left best
 
 abbrev choose-μ-loop : choose-lts.MeasureT-loop
-choose-μ-loop extents weights divisors places known₀ left all each n w rest best₀ j₀ known best j = length divisors - j
+choose-μ-loop extents weights divisors places known₀ left spare each n w rest best₀ j₀ known best j = length divisors - j
 
 -- ---- choose
 
 module _ (t : ℕ) where
+  choose-last-two-requires : choose-lts.Need-last-two-requires (choose-calls t) (choose-at t) choose.Post choose-Inv-loop choose-μ-loop
+  choose-last-two-requires c κs =
+      let start = c .before .before .before .before .before .before in
+      let args = start .args in
+      let ask = start .pre .1 in
+      steps.two-left (args .extents .now) (args .weights .now) (args .divisors .now) (args .places .now) (args .known .now) (args .left) (args .spare) (args .each) ask
+
+  choose-returns : choose-lts.Need-returns (choose-calls t) (choose-at t) choose.Post choose-Inv-loop choose-μ-loop
+  choose-returns c =
+      let start = c .before .before .before .before .before .before .before in
+      let args = start .args in
+      let ask = start .pre .1 in
+      record { answer = steps.two-answer (args .extents .now) (args .weights .now) (args .divisors .now) (args .places .now) (args .known .now) (args .left) (args .spare) (args .each) ask (c .last-two .result) (c .before .if1 .taken) (c .last-two .ensures); memory = ask .memory }
+
+  choose-add-first-of : choose-lts.Need-add-first-of (choose-calls t) (choose-at t) choose.Post choose-Inv-loop choose-μ-loop
+  choose-add-first-of c =
+      let ask = c .before .before .before .before .before .before .pre .1 in
+      omega (arith, ask .within, ask .five)
+
   choose-first-of-requires : choose-lts.Need-first-of-requires (choose-calls t) (choose-at t) choose.Post choose-Inv-loop choose-μ-loop
-  choose-first-of-requires c κs = c .before .before .before .before .before .pre .1 .0 .within
+  choose-first-of-requires c κs =
+      let ask = c .before .before .before .before .before .before .pre .1 in
+      omega (arith, ask .within, ask .weights-too)
+
+  choose-add-first-of-2 : choose-lts.Need-add-first-of-2 (choose-calls t) (choose-at t) choose.Post choose-Inv-loop choose-μ-loop
+  choose-add-first-of-2 c =
+      let ask = c .before .before .before .before .before .before .before .pre .1 in
+      omega (arith, ask .within, ask .five)
 
   choose-first-of-requires-2 : choose-lts.Need-first-of-requires-2 (choose-calls t) (choose-at t) choose.Post choose-Inv-loop choose-μ-loop
   choose-first-of-requires-2 c κs =
-      let ask = c .before .before .before .before .before .before .pre .1 .0 in
+      let ask = c .before .before .before .before .before .before .before .pre .1 in
       omega (arith, ask .within, ask .weights-too)
+
+  choose-add-uncut-cost : choose-lts.Need-add-uncut-cost (choose-calls t) (choose-at t) choose.Post choose-Inv-loop choose-μ-loop
+  choose-add-uncut-cost c =
+      let ask = c .before .before .before .before .before .before .before .before .pre .1 in
+      omega (arith, ask .within, ask .five)
 
   choose-uncut-cost-requires : choose-lts.Need-uncut-cost-requires (choose-calls t) (choose-at t) choose.Post choose-Inv-loop choose-μ-loop
   choose-uncut-cost-requires c κs =
-      let ask = c .before .before .before .before .before .before .before .pre .1 .0 in
+      let ask = c .before .before .before .before .before .before .before .before .pre .1 in
       (omega (arith, ask .within, ask .weights-too), omega (arith, ask .five, ask .weights-too))
 
   choose-loop-holds : choose-lts.Need-loop-holds (choose-calls t) (choose-at t) choose.Post choose-Inv-loop choose-μ-loop
   choose-loop-holds c =
-      let start = c .before .before .before .before .before .before .before .before in
+      let start = c .before .before .before .before .before .before .before .before .before in
       let args = start .args in
-      let ask = start .pre .1 .0 in
-      (zero-le, refl, record { answer = steps.tried-start (args .extents .now) (args .weights .now) (args .divisors .now) (args .places .now) (args .known .now) (args .left) (args .all) (args .each) ask; memory = ask .memory })
+      let ask = start .pre .1 in
+      (zero-le, refl, record { answer = steps.tried-start (args .extents .now) (args .weights .now) (args .divisors .now) (args .places .now) (args .known .now) (args .left) (args .spare) (args .each) ask; memory = ask .memory })
 
   choose-mul-b : choose-lts.Need-mul-b (choose-calls t) (choose-at t) choose.Post choose-Inv-loop choose-μ-loop
   choose-mul-b c = search needs
@@ -157,16 +185,24 @@ module _ (t : ℕ) where
   choose-shared-slice-read-b : choose-lts.Need-shared-slice-read-b (choose-calls t) (choose-at t) choose.Post choose-Inv-loop choose-μ-loop
   choose-shared-slice-read-b c = omega arith
 
+  choose-mul-stops : choose-lts.Need-mul-stops (choose-calls t) (choose-at t) choose.Post choose-Inv-loop choose-μ-loop
+  choose-mul-stops c =
+      let start = c .before .before .before .before .before .before .before .before .before .before .before .before in
+      let args = start .args in
+      let ask = start .pre .1 in
+      omega (arith, questions.product-small (args .divisors .now) (args .spare) (args .each) (ask .divided) (ask .posed))
+
   choose-cut-cost-requires : choose-lts.Need-cut-cost-requires (choose-calls t) (choose-at t) choose.Post choose-Inv-loop choose-μ-loop
   choose-cut-cost-requires c κs = tt
 
   choose-add-stops : choose-lts.Need-add-stops (choose-calls t) (choose-at t) choose.Post choose-Inv-loop choose-μ-loop
   choose-add-stops c =
-      let start = c .before .before .before .before .before .before .before .before .before .before .before .before in
+      let start = c .before .before .before .before .before .before .before .before .before .before .before .before .before in
       let args = start .args in
-      let ask = start .pre .1 .0 in
+      let ask = start .pre .1 in
       let j = c .before .before .before .loop .j in
-      let bound = answers.cutCost-small (getD (args .divisors .now) j 0) (c .before .before .before .before .before .first-of2 .result) (ask .divided .small j (c .before .before .loop-test .taken)) (c .before .before .before .before .before .first-of2 .ensures .1) in
+      let w = c .before .before .before .before .before .first-of2 in
+      let bound = answers.cutCost-small (getD (args .divisors .now) j 0) (w .result) (ask .divided .small j (c .before .before .loop-test .taken)) (w .ensures .1) in
       omega (arith, bound, c .cut-cost .ensures, c .before .before .before .before .uncut-cost .ensures .1)
 
   choose-stops-requires : choose-lts.Need-stops-requires (choose-calls t) (choose-at t) choose.Post choose-Inv-loop choose-μ-loop
@@ -175,42 +211,44 @@ module _ (t : ℕ) where
   choose-same-length : choose-lts.Need-same-length (choose-calls t) (choose-at t) choose.Post choose-Inv-loop choose-μ-loop
   choose-same-length c = c .before .before .before .before .before .loop .inv .1
 
-  choose-returns : choose-lts.Need-returns (choose-calls t) (choose-at t) choose.Post choose-Inv-loop choose-μ-loop
-  choose-returns c =
-      let start = c .before .before .before .before .before .before .before .before .before .before .before .before .before .before in
+  choose-returns-2 : choose-lts.Need-returns-2 (choose-calls t) (choose-at t) choose.Post choose-Inv-loop choose-μ-loop
+  choose-returns-2 c =
+      let start = c .before .before .before .before .before .before .before .before .before .before .before .before .before .before .before in
       let args = start .args in
-      let ask = start .pre .1 .0 in
+      let ask = start .pre .1 in
       let loop = c .before .before .before .before .before .loop in
-      let n = c .before .before .before .before .before .before .before .before .first-of .result in
-      let w = c .before .before .before .before .before .before .before .first-of2 .result in
+      let n = c .before .before .before .before .before .before .before .before .first-of in
+      let w = c .before .before .before .before .before .before .before .first-of2 in
       let rest = c .before .before .before .before .before .before .uncut-cost in
       let cost = c .before .before .cut-cost in
       let b : ℕ = getD (args .divisors .now) (loop .j) 0 in
       record {
-        answer = steps.tried-stop (args .extents .now) (args .weights .now) (args .divisors .now) (args .places .now) (args .known .now) (args .left) (args .all) (args .each) ask (loop .j) (loop .best) b n w (cost .result + rest .result)
-            (c .before .before .before .before .loop-test .taken) refl (c .before .before .before .before .before .before .before .before .first-of .ensures .0) (c .before .before .before .before .before .before .before .first-of2 .ensures .0) (c .before .before .before .before .before .before .before .first-of2 .ensures .1)
-            (ap₂ _+_ (cost .ensures) (rest .ensures .0)) (subst (λ (k : ℕ). k ≤ 2 ^ 47) (rest .ensures .0) (rest .ensures .1))
-            (subst (λ (v : Bool). Stops b n (args .all) (cost .result + rest .result) (loop .best) v) (c .if1 .taken) (c .before .stops .ensures)) (loop .inv .2 .answer);
+        answer = steps.tried-stop (args .extents .now) (args .weights .now) (args .divisors .now) (args .places .now) (args .known .now) (args .left) (args .spare) (args .each) ask (loop .j) (loop .best) b (n .result) (w .result) (cost .result + rest .result) (rest .result)
+            (c .before .before .before .before .loop-test .taken) refl (n .ensures .0) (w .ensures .0) (w .ensures .1) (rest .ensures .0) (rest .ensures .1)
+            (ap (λ (k : ℕ). k + rest .result) (cost .ensures)) (subst (λ (v : Bool). Stops b (c .before .before .before .before .before .before .before .before .first-of .result) (args .spare * args .each) (c .before .before .cut-cost .result + c .before .before .before .before .before .before .uncut-cost .result) (loop .best) v) (c .if2 .taken) (c .before .stops .ensures)) (loop .inv .2 .answer);
         memory = loop .inv .2 .memory;
       }
 
   choose-with-cut-requires : choose-lts.Need-with-cut-requires (choose-calls t) (choose-at t) choose.Post choose-Inv-loop choose-μ-loop
   choose-with-cut-requires c κs =
-      let start = c .before .before .before .before .before .before .before .before .before .before .before .before .before .before .before in
+      let start = c .before .before .before .before .before .before .before .before .before .before .before .before .before .before .before .before in
       let args = start .args in
-      let ask = start .pre .1 .0 in
+      let ask = start .pre .1 in
       let loop = c .before .before .before .before .before .before .loop in
       let within = c .before .before .before .before .before .loop-test .taken in
       let b : ℕ = getD (args .divisors .now) (loop .j) 0 in
-      let fits = subst (λ (v : Bool). Stops b (c .before .before .before .before .before .before .before .before .before .first-of .result) (args .all) (c .before .before .before .cut-cost .result + c .before .before .before .before .before .before .before .uncut-cost .result) (loop .best) v) (c .before .if1 .left) (c .before .before .stops .ensures) in (
+      let n = c .before .before .before .before .before .before .before .before .before .first-of in
+      let n-is : n .result ≡ getD (args .extents .now) (length (args .extents .now) - suc (suc (args .left))) 0 =
+      n .ensures .0 ∙ ap (λ (k : ℕ). getD (args .extents .now) (length (args .extents .now) - suc k) 0) (add-one (args .left)) in
+      let fits = (subst (λ (v : Bool). Stops b (c .before .before .before .before .before .before .before .before .before .first-of .result) (args .spare * args .each) (c .before .before .before .cut-cost .result + c .before .before .before .before .before .before .before .uncut-cost .result) (loop .best) v) (c .before .if2 .left) (c .before .before .stops .ensures)) in (
         omega (arith, start .pre .0),
         (
-          steps.searchable-now (args .extents .now) (args .weights .now) (args .divisors .now) (args .places .now) (args .known .now) (args .left) (args .all) (args .each) ask (loop .known) (loop .inv .2 .memory),
+          steps.searchable-now (args .extents .now) (args .weights .now) (args .divisors .now) (args .places .now) (args .known .now) (args .left) (args .spare) (args .each) ask (loop .known) (loop .inv .2 .memory),
           record {
-            some-left = start .pre .1 .1;
+            some-left = pos-of-ne-zero (c .before .before .before .before .before .before .before .before .before .before .if1 .left);
             low = ask .divided .positive (loop .j) within;
             small = ask .divided .small (loop .j) within;
-            fits = subst (λ (k : ℕ). b ≤ k) (c .before .before .before .before .before .before .before .before .before .first-of .ensures .0) fits;
+            fits = subst (λ (k : ℕ). b ≤ k) n-is (fits .0);
           },
         ),
       )
@@ -220,24 +258,24 @@ module _ (t : ℕ) where
 
   choose-add-j : choose-lts.Need-add-j (choose-calls t) (choose-at t) choose.Post choose-Inv-loop choose-μ-loop
   choose-add-j c =
-      let few = c .before .before .before .before .before .before .before .before .before .before .before .before .before .before .before .before .before .before .before .pre .1 .0 .divided .few in
+      let few = c .before .before .before .before .before .before .before .before .before .before .before .before .before .before .before .before .before .before .before .before .pre .1 .divided .few in
       omega (arith, few, c .before .before .before .before .before .before .before .before .before .loop-test .taken)
 
   choose-loop-less : choose-lts.Need-loop-less (choose-calls t) (choose-at t) choose.Post choose-Inv-loop choose-μ-loop
-  choose-loop-less c = omega arith
+  choose-loop-less c = omega (arith, c .before .before .before .before .before .before .before .before .before .loop-test .taken)
 
   choose-loop-again : choose-lts.Need-loop-again (choose-calls t) (choose-at t) choose.Post choose-Inv-loop choose-μ-loop
   choose-loop-again c =
-      let start = c .before .before .before .before .before .before .before .before .before .before .before .before .before .before .before .before .before .before .before in
+      let start = c .before .before .before .before .before .before .before .before .before .before .before .before .before .before .before .before .before .before .before .before in
       let args = start .args in
-      let ask = start .pre .1 .0 in
+      let ask = start .pre .1 in
       let loop = c .before .before .before .before .before .before .before .before .before .before .loop in
       let within = c .before .before .before .before .before .before .before .before .before .loop-test .taken in
       let next = c .before .before .before .with-cut in (
         omega (arith, within),
         next .kept .1 .1 .1 .1 .0 ∙ loop .inv .1,
         record {
-          answer = steps.tried-step (args .extents .now) (args .weights .now) (args .divisors .now) (args .places .now) (args .known .now) (args .left) (args .all) (args .each) ask (loop .j) (loop .best) (next .result) (c .smaller .result) within (loop .inv .2 .answer) (next .ensures .answer) (c .smaller .ensures);
+          answer = steps.tried-step (args .extents .now) (args .weights .now) (args .divisors .now) (args .places .now) (args .known .now) (args .left) (args .spare) (args .each) ask (loop .j) (loop .best) (next .result) (c .smaller .result) within (loop .inv .2 .answer) (next .ensures .answer) (c .smaller .ensures);
           memory = next .ensures .memory;
         },
       )
@@ -245,51 +283,21 @@ module _ (t : ℕ) where
   choose-same-length-2 : choose-lts.Need-same-length-2 (choose-calls t) (choose-at t) choose.Post choose-Inv-loop choose-μ-loop
   choose-same-length-2 c = c .before .loop .inv .1
 
-  choose-returns-2 : choose-lts.Need-returns-2 (choose-calls t) (choose-at t) choose.Post choose-Inv-loop choose-μ-loop
-  choose-returns-2 c =
-      let start = c .before .before .before .before .before .before .before .before .before .before in
+  choose-returns-3 : choose-lts.Need-returns-3 (choose-calls t) (choose-at t) choose.Post choose-Inv-loop choose-μ-loop
+  choose-returns-3 c =
+      let start = c .before .before .before .before .before .before .before .before .before .before .before in
       let args = start .args in
-      let ask = start .pre .1 .0 in
+      let ask = start .pre .1 in
       let loop = c .before .loop in
-      record { answer = steps.tried-end (args .extents .now) (args .weights .now) (args .divisors .now) (args .places .now) (args .known .now) (args .left) (args .all) (args .each) ask (loop .j) (loop .best) (omega arith) (loop .inv .2 .answer); memory = loop .inv .2 .memory }
+      record { answer = steps.tried-end (args .extents .now) (args .weights .now) (args .divisors .now) (args .places .now) (args .known .now) (args .left) (args .spare) (args .each) ask (loop .j) (loop .best) (omega arith) (loop .inv .2 .answer); memory = loop .inv .2 .memory }
 
 -- ---- search
 
 module _ (t : ℕ) where
-  search-first-of-requires : search-lts.Need-first-of-requires (search-calls t) (search-at t) search′.Post
-  search-first-of-requires c κs =
-      let ask = c .before .before .before .before .before .before .pre .1 in
-      omega (arith, ask .within)
-
-  search-first-of-requires-2 : search-lts.Need-first-of-requires-2 (search-calls t) (search-at t) search′.Post
-  search-first-of-requires-2 c κs =
-      let ask = c .before .before .before .before .before .before .before .pre .1 in
-      omega (arith, ask .within, ask .weights-too)
-
-  search-last-cut-requires : search-lts.Need-last-cut-requires (search-calls t) (search-at t) search′.Post
-  search-last-cut-requires c κs =
-      let start = c .before .before .before .before .before .before .before .before in
-      let args = start .args in
-      let ask = start .pre .1 in (
-        questions.all-pos (args .divisors .now) (args .all) (args .each) (ask .divided) (ask .posed),
-        questions.all-small (args .divisors .now) (args .all) (args .each) (ask .divided) (ask .posed),
-      )
-
-  search-returns : search-lts.Need-returns (search-calls t) (search-at t) search′.Post
-  search-returns c =
-      let start = c .before .before .before .before .before .before .before .before .before in
-      let args = start .args in
-      let ask = start .pre .1 in
-      record {
-        answer = steps.last-answer (args .extents .now) (args .weights .now) (args .divisors .now) (args .places .now) (args .known .now) (args .left) (args .all) (args .each) ask (c .before .before .first-of .result) (c .before .first-of2 .result) (c .last-cut .result) (c .before .before .before .if1 .taken)
-            (c .before .before .first-of .ensures .0) (c .before .first-of2 .ensures .0) (c .last-cut .ensures);
-        memory = ask .memory;
-      }
-
   search-slot-requires : search-lts.Need-slot-requires (search-calls t) (search-at t) search′.Post
   search-slot-requires c κs =
-      let ask = c .before .before .before .before .before .before .pre .1 in
-      (pos-of-ne-zero (c .if1 .left), omega (arith, ask .within, ask .five), ask .divided .few)
+      let ask = c .before .before .before .before .before .pre .1 in
+      (omega (arith, ask .within, ask .five), ask .divided .few)
 
   search-recall-requires : search-lts.Need-recall-requires (search-calls t) (search-at t) search′.Post
   search-recall-requires c κs = tt
@@ -297,24 +305,23 @@ module _ (t : ℕ) where
   search-same-length : search-lts.Need-same-length (search-calls t) (search-at t) search′.Post
   search-same-length c = refl
 
-  search-returns-2 : search-lts.Need-returns-2 (search-calls t) (search-at t) search′.Post
-  search-returns-2 c =
-      let start = c .before .before .before .before .before .before .before .before .before .before in
+  search-returns : search-lts.Need-returns (search-calls t) (search-at t) search′.Post
+  search-returns c =
+      let start = c .before .before .before .before .before .before .before .before .before in
       let args = start .args in
       let ask = start .pre .1 in
       record {
-        answer = memory.recalled (args .extents .now) (args .weights .now) (args .divisors .now) (args .places .now) (args .known .now) (record { left = args .left; all = args .all; each = args .each })
-            (pos-of-ne-zero (c .before .before .before .before .if1 .left), ask .posed) (ask .memory) (c .before .recall .result)
-            (c .before .recall .ensures ∙ ap (λ (i : ℕ). getD (args .known .now) i 0) (c .before .before .before .slot .ensures)) (c .if2 .taken);
+        answer = memory.recalled (args .extents .now) (args .weights .now) (args .divisors .now) (args .places .now) (args .known .now) (record { left = args .left; spare = args .spare; each = args .each }) (ask .posed) (ask .memory)
+            (c .before .recall .result) (c .before .recall .ensures ∙ ap (λ (i : ℕ). getD (args .known .now) i 0) (c .before .before .before .slot .ensures)) (c .if1 .taken);
         memory = ask .memory;
       }
 
   search-choose-requires : search-lts.Need-choose-requires (search-calls t) (search-at t) search′.Post
   search-choose-requires c κs =
-      let start = c .before .before .before .before .before .before .before .before .before .before .before in
+      let start = c .before .before .before .before .before .before .before .before .before .before in
       let args = start .args in
       let ask = start .pre .1 in
-      (omega (arith, start .pre .0), (ask, pos-of-ne-zero (c .before .before .before .before .before .if1 .left)))
+      (omega (arith, start .pre .0), ask)
 
   search-keep-requires : search-lts.Need-keep-requires (search-calls t) (search-at t) search′.Post
   search-keep-requires c κs = tt
@@ -322,9 +329,9 @@ module _ (t : ℕ) where
   search-same-length-2 : search-lts.Need-same-length-2 (search-calls t) (search-at t) search′.Post
   search-same-length-2 c = c .before .before .keep .kept .0 ∙ c .before .before .before .before .before .before .choose .kept .1 .1 .1 .1 .0
 
-  search-returns-3 : search-lts.Need-returns-3 (search-calls t) (search-at t) search′.Post
-  search-returns-3 c =
-      let start = c .before .before .before .before .before .before .before .before .before .before .before .before .before .before .before .before .before .before in
+  search-returns-2 : search-lts.Need-returns-2 (search-calls t) (search-at t) search′.Post
+  search-returns-2 c =
+      let start = c .before .before .before .before .before .before .before .before .before .before .before .before .before .before .before .before .before in
       let args = start .args in
       let ask = start .pre .1 in
       let found = c .before .before .before .before .before .before .choose in
@@ -333,75 +340,83 @@ module _ (t : ℕ) where
         answer = found .ensures .answer;
         memory = subst⁻¹ (λ (l : List ℕ). Remembers (args .extents .now) (args .weights .now) (args .divisors .now) (args .places .now) l)
             (c .before .before .keep .ensures ∙ ap (λ (i : ℕ). set known i (found .result)) (c .before .before .before .before .before .before .before .before .before .before .before .slot .ensures))
-            (memory.remembers-set (args .extents .now) (args .weights .now) (args .divisors .now) (args .places .now) known (record { left = args .left; all = args .all; each = args .each })
-            (pos-of-ne-zero (c .before .before .before .before .before .before .before .before .before .before .before .before .if1 .left), ask .posed) (found .ensures .memory) (found .result) (found .ensures .answer));
+            (memory.remembers-set (args .extents .now) (args .weights .now) (args .divisors .now) (args .places .now) known (record { left = args .left; spare = args .spare; each = args .each }) (ask .posed)
+            (found .ensures .memory) (found .result) (found .ensures .answer));
       }
 
 -- ---- with_cut
 
 module _ (t : ℕ) where
-  with-cut-may-begin-requires : with-cut-lts.Need-may-begin-requires (with-cut-calls t) (with-cut-at t) with-cut.Post
-  with-cut-may-begin-requires c κs =
+  with-cut-mul-if1 : with-cut-lts.Need-mul-if1 (with-cut-calls t) (with-cut-at t) with-cut.Post
+  with-cut-mul-if1 c =
       let start = c .before .before .before .before .before in
       let args = start .args in
       let ask = start .pre .1 .0 in
-      (questions.each-pos (args .divisors .now) (args .all) (args .each) (ask .divided) (ask .posed), start .pre .1 .1 .low)
+      omega (arith, questions.product-small (args .divisors .now) (args .spare) (args .each) (ask .divided) (ask .posed))
+
+  with-cut-rem-if1 : with-cut-lts.Need-rem-if1 (with-cut-calls t) (with-cut-at t) with-cut.Post
+  with-cut-rem-if1 c = c .before .before .before .before .before .pre .1 .1 .low
 
   with-cut-returns : with-cut-lts.Need-returns (with-cut-calls t) (with-cut-at t) with-cut.Post
   with-cut-returns c =
-      let start = c .before .before .before .before .before .before .before in
+      let start = c .before .before .before .before .before .before in
       let args = start .args in
       let ask = start .pre .1 .0 in
       record {
-        answer = answers.answers-none (Begun (args .all) (args .each) (args .b) (lastOf (suc (args .left)) (args .extents .now))) (lastOf (suc (args .left)) (args .weights .now)) (2 ^ 63) refl
-            (steps.begun-empty (args .extents .now) (args .weights .now) (args .divisors .now) (args .places .now) (args .known .now) (args .left) (args .all) (args .each) ask (args .b)
-            (subst (λ (v : Bool). MayBegin (args .left) (args .all) (args .each) (args .b) v) (not-true (c .before .may-begin .result) (c .if1 .taken)) (c .before .may-begin .ensures)));
+        answer = answers.answers-none (Begun (args .spare) (args .each) (args .b) (lastOf (suc (suc (args .left))) (args .extents .now))) (lastOf (suc (suc (args .left))) (args .weights .now)) (2 ^ 63) refl
+            (tried.begun-not-dvd (args .spare) (args .each) (args .b) (lastOf (suc (suc (args .left))) (args .extents .now)) (λ d. c .if1 .taken (mod-eq-zero-of-dvd (args .b) d)));
         memory = ask .memory;
       }
+
+  with-cut-gcd-requires : with-cut-lts.Need-gcd-requires (with-cut-calls t) (with-cut-at t) with-cut.Post
+  with-cut-gcd-requires c κs = tt
 
   with-cut-sub-search : with-cut-lts.Need-sub-search (with-cut-calls t) (with-cut-at t) with-cut.Post
   with-cut-sub-search c = c .before .before .before .before .before .before .before .before .pre .1 .1 .some-left
 
-  with-cut-all-after-requires : with-cut-lts.Need-all-after-requires (with-cut-calls t) (with-cut-at t) with-cut.Post
-  with-cut-all-after-requires c κs =
+  with-cut-spare-after-requires : with-cut-lts.Need-spare-after-requires (with-cut-calls t) (with-cut-at t) with-cut.Post
+  with-cut-spare-after-requires c κs =
       let start = c .before .before .before .before .before .before .before .before in
       let args = start .args in
-      let ask = start .pre .1 .0 in (
-        questions.all-pos (args .divisors .now) (args .all) (args .each) (ask .divided) (ask .posed),
-        ask .posed .shared,
-        subst (λ (v : Bool). MayBegin (args .left) (args .all) (args .each) (args .b) v) (not-false (c .before .before .may-begin .result) (c .before .if1 .left)) (c .before .before .may-begin .ensures),
-      )
+      let ask = start .pre .1 .0 in
+      (questions.spare-pos (args .divisors .now) (args .spare) (args .each) (ask .divided) (ask .posed), questions.taken-small (args .divisors .now) (args .spare) (args .each) (ask .divided) (ask .posed) (args .b) (c .before .gcd .result) (c .before .gcd .ensures))
 
-  with-cut-each-after-requires : with-cut-lts.Need-each-after-requires (with-cut-calls t) (with-cut-at t) with-cut.Post
-  with-cut-each-after-requires c κs =
+  with-cut-div-search : with-cut-lts.Need-div-search (with-cut-calls t) (with-cut-at t) with-cut.Post
+  with-cut-div-search c =
       let start = c .before .before .before .before .before .before .before .before .before in
       let args = start .args in
       let ask = start .pre .1 .0 in
-      questions.each-pos (args .divisors .now) (args .all) (args .each) (ask .divided) (ask .posed)
+      subst⁻¹ (λ (n : ℕ). 0 < n) (c .before .before .gcd .ensures) (gcd-pos (args .each) (args .b) (questions.each-pos (args .divisors .now) (args .spare) (args .each) (ask .divided) (ask .posed)))
 
   with-cut-search-requires : with-cut-lts.Need-search-requires (with-cut-calls t) (with-cut-at t) with-cut.Post
   with-cut-search-requires c κs =
-      let start = c .before .before .before .before .before .before .before .before .before .before in
+      let start = c .before .before .before .before .before .before .before .before .before in
       let args = start .args in
       let ask = start .pre .1 .0 in (
         omega (arith, start .pre .0, start .pre .1 .1 .some-left),
-        steps.searchable-after (args .extents .now) (args .weights .now) (args .divisors .now) (args .places .now) (args .known .now) (args .left) (args .all) (args .each) ask (args .known .now) (args .b) (c .before .all-after .result) (c .each-after .result) (c .before .all-after .ensures) (c .each-after .ensures) (ask .memory),
+        steps.searchable-after (args .extents .now) (args .weights .now) (args .divisors .now) (args .places .now) (args .known .now) (args .left) (args .spare) (args .each) ask (args .known .now) (args .b) (c .spare-after .result) (args .each / c .before .before .gcd .result) (start .pre .1 .1 .some-left) (questions.spare-after-is (args .spare) (args .each) (args .b) (c .before .before .gcd .result) (c .spare-after .result) (c .before .before .gcd .ensures) (c .spare-after .ensures)) (questions.each-after-is (args .each) (args .b) (c .before .before .gcd .result) (c .before .before .gcd .ensures)) (ask .memory),
       )
+
+  with-cut-add-first-of : with-cut-lts.Need-add-first-of (with-cut-calls t) (with-cut-at t) with-cut.Post
+  with-cut-add-first-of c =
+      let ask = c .before .before .before .before .before .before .before .before .before .before .before .before .pre .1 .0 in
+      omega (arith, ask .within, ask .five)
 
   with-cut-first-of-requires : with-cut-lts.Need-first-of-requires (with-cut-calls t) (with-cut-at t) with-cut.Post
   with-cut-first-of-requires c κs =
-      let ask = c .before .before .before .before .before .before .before .before .before .before .before .before .before .pre .1 .0 in
+      let ask = c .before .before .before .before .before .before .before .before .before .before .before .before .pre .1 .0 in
       omega (arith, ask .within, ask .weights-too)
 
   with-cut-in-front-requires : with-cut-lts.Need-in-front-requires (with-cut-calls t) (with-cut-at t) with-cut.Post
   with-cut-in-front-requires c κs =
-      let start = c .before .before .before .before .before .before .before .before .before .before .before .before .before .before in
+      let start = c .before .before .before .before .before .before .before .before .before .before .before .before .before in
       let args = start .args in
       let ask = start .pre .1 .0 in
-      let length-left = questions.length-lastOf (suc (args .left - 1)) (args .weights .now) (omega (arith, ask .within, ask .weights-too)) in (
+      let found = c .before .before .before .search in
+      let length-left = questions.length-lastOf (suc (suc (args .left - 1))) (args .weights .now) (omega (arith, ask .within, ask .weights-too, start .pre .1 .1 .some-left)) in (
         start .pre .1 .1 .small,
-        steps.answers-bound (Open (c .before .before .before .before .before .all-after .result) (c .before .before .before .before .each-after .result) (lastOf (suc (args .left - 1)) (args .extents .now))) (lastOf (suc (args .left - 1)) (args .weights .now))
-            (c .before .before .before .search .result) (omega (arith, ask .within, ask .five)) (c .before .before .before .search .ensures .answer),
+        answers.answers-bound (Open (c .before .before .before .before .spare-after .result) (args .each / c .before .before .before .before .before .before .gcd .result) (lastOf (suc (suc (args .left - 1))) (args .extents .now)))
+            (lastOf (suc (suc (args .left - 1))) (args .weights .now)) (found .result) (omega (arith, ask .within, ask .five, start .pre .1 .1 .some-left)) (found .ensures .answer),
       )
 
   with-cut-same-length : with-cut-lts.Need-same-length (with-cut-calls t) (with-cut-at t) with-cut.Post
@@ -409,20 +424,21 @@ module _ (t : ℕ) where
 
   with-cut-returns-2 : with-cut-lts.Need-returns-2 (with-cut-calls t) (with-cut-at t) with-cut.Post
   with-cut-returns-2 c =
-      let start = c .before .before .before .before .before .before .before .before .before .before .before .before .before .before .before in
+      let start = c .before .before .before .before .before .before .before .before .before .before .before .before .before .before in
       let args = start .args in
       let ask = start .pre .1 .0 in
       let found = c .before .before .before .before .search in
+      let w = c .before .first-of in
+      let next = rw (questions.spare-after-is (args .spare) (args .each) (args .b) (c .before .before .before .before .before .before .before .gcd .result) (c .before .before .before .before .before .spare-after .result) (c .before .before .before .before .before .before .before .gcd .ensures) (c .before .before .before .before .before .spare-after .ensures), questions.each-after-is (args .each) (args .b) (c .before .before .before .before .before .before .before .gcd .result) (c .before .before .before .before .before .before .before .gcd .ensures)) at (found .ensures .answer) in
       record {
-        answer = rw (c .in-front .ensures) (steps.begun-found (args .extents .now) (args .weights .now) (args .divisors .now) (args .places .now) (args .known .now) (args .left) (args .all) (args .each) ask (args .b) (c .before .first-of .result) (found .result) (start .pre .1 .1)
-            (subst (λ (v : Bool). MayBegin (args .left) (args .all) (args .each) (args .b) v) (not-false (c .before .before .before .before .before .before .before .before .before .may-begin .result) (c .before .before .before .before .before .before .before .before .if1 .left)) (c .before .before .before .before .before .before .before .before .before .may-begin .ensures)) (c .before .first-of .ensures .0) (c .before .first-of .ensures .1)
-            (rw (c .before .before .before .before .before .before .all-after .ensures, c .before .before .before .before .before .each-after .ensures) at (found .ensures .answer)));
+        answer = rw (c .in-front .ensures) (steps.begun-found (args .extents .now) (args .weights .now) (args .divisors .now) (args .places .now) (args .known .now) (args .left) (args .spare) (args .each) ask (args .b) (w .result) (found .result) (start .pre .1 .1)
+            (dvd-of-mod-eq-zero (args .b) (c .before .before .before .before .before .before .before .before .if1 .left)) (w .ensures .0) (w .ensures .1) next);
         memory = found .ensures .memory;
       }
 
 pub +choose+search+with-cut-spec : {M : Type 1} → statement M
 +choose+search+with-cut-spec =
     close μ-choose μ-search μ-with-cut
-    (λ t. choose-lts.spec (choose-calls t) (choose-at t) choose.Post choose-Inv-loop choose-μ-loop (choose-first-of-requires t) (choose-first-of-requires-2 t) (choose-uncut-cost-requires t) (choose-loop-holds t) (choose-mul-b t) (choose-shared-slice-read-b t) (choose-cut-cost-requires t) (choose-add-stops t) (choose-stops-requires t) (choose-same-length t) (choose-returns t) (choose-with-cut-requires t) (choose-smaller-requires t) (choose-add-j t) (choose-loop-less t) (choose-loop-again t) (choose-same-length-2 t) (choose-returns-2 t))
-    (λ t. search-lts.spec (search-calls t) (search-at t) search′.Post (search-first-of-requires t) (search-first-of-requires-2 t) (search-last-cut-requires t) (search-returns t) (search-slot-requires t) (search-recall-requires t) (search-same-length t) (search-returns-2 t) (search-choose-requires t) (search-keep-requires t) (search-same-length-2 t) (search-returns-3 t))
-    (λ t. with-cut-lts.spec (with-cut-calls t) (with-cut-at t) with-cut.Post (with-cut-may-begin-requires t) (with-cut-returns t) (with-cut-sub-search t) (with-cut-all-after-requires t) (with-cut-each-after-requires t) (with-cut-search-requires t) (with-cut-first-of-requires t) (with-cut-in-front-requires t) (with-cut-same-length t) (with-cut-returns-2 t))
+    (λ t. choose-lts.spec (choose-calls t) (choose-at t) choose.Post choose-Inv-loop choose-μ-loop (choose-last-two-requires t) (choose-returns t) (choose-add-first-of t) (choose-first-of-requires t) (choose-add-first-of-2 t) (choose-first-of-requires-2 t) (choose-add-uncut-cost t) (choose-uncut-cost-requires t) (choose-loop-holds t) (choose-mul-b t) (choose-shared-slice-read-b t) (choose-mul-stops t) (choose-cut-cost-requires t) (choose-add-stops t) (choose-stops-requires t) (choose-same-length t) (choose-returns-2 t) (choose-with-cut-requires t) (choose-smaller-requires t) (choose-add-j t) (choose-loop-less t) (choose-loop-again t) (choose-same-length-2 t) (choose-returns-3 t))
+    (λ t. search-lts.spec (search-calls t) (search-at t) search′.Post (search-slot-requires t) (search-recall-requires t) (search-same-length t) (search-returns t) (search-choose-requires t) (search-keep-requires t) (search-same-length-2 t) (search-returns-2 t))
+    (λ t. with-cut-lts.spec (with-cut-calls t) (with-cut-at t) with-cut.Post (with-cut-mul-if1 t) (with-cut-rem-if1 t) (with-cut-returns t) (with-cut-gcd-requires t) (with-cut-sub-search t) (with-cut-spare-after-requires t) (with-cut-div-search t) (with-cut-search-requires t) (with-cut-add-first-of t) (with-cut-first-of-requires t) (with-cut-in-front-requires t) (with-cut-same-length t) (with-cut-returns-2 t))
