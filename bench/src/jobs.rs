@@ -1,17 +1,9 @@
 //! The jobs, plans and questions that are timed.
 
 use crate::plan_list::{list_of, PlanList};
+pub use link::questions::Job;
 use oracle::plan::{plan_job, Plan};
 use oracle::random::Random;
-
-/// A job in range, with d extents and weights.
-#[derive(Clone, Debug)]
-pub struct Job {
-    pub p: u32,
-    pub d: u32,
-    pub extents: Vec<u32>,
-    pub weights: Vec<u32>,
-}
 
 /// One job for every p up to 4,096 and every d, the weights and extents of many kinds.
 pub fn mix(seed: u64) -> Vec<Job> {

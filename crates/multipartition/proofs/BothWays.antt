@@ -7,7 +7,7 @@ use mathlib.Core.List.{List, [], _∷_, List·Memᴰ}
 use mathlib.Core.Option.{Option, some}
 use Prim.Native.Nat.{ℕ, suc, _-_, _≤_, _<_}
 use native.Mathlib.Omega.{arith}
-use borrow.Author.Tests.{ltb-true, lt-ltb, not-false}
+use borrow.Author.Tests.{ltb-true, lt-ltb}
 use lib.Dec.{leb, ltb, eqb}
 use lib.ListN.{getD}
 use Rattle.numbers.specs.Products.{product}
@@ -20,28 +20,11 @@ use Rattle.multipartition.specs.Chains.{headsOf, nextsOf}
 use Rattle.multipartition.specs.Plans.{Layout, tilesOf, between, dimensionOk, rowOk, inShape}
 use Rattle.multipartition.specs.Questions.{extentOf, cutOf, tileOwner, ownerAnswer, numberAnswer, stepAnswer, positionAnswer, slabAnswer, slabOfAnswer, chainsAnswer}
 use Rattle.multipartition.proofs.Tests.{and-true-iff, allBelow-true-iff}
+use Rattle.multipartition.proofs.Answers.{answered-iff, answered-injective}
 use Rattle.multipartition.proofs.Plans.{between-true-iff}
 use Rattle.multipartition.proofs.Tiles.{inside-of-test, test-of-inside, number-low, number-high, position-inside, position-of-number, number-of-position, one-step-on-inside, step-back}
 use Rattle.multipartition.proofs.Slabs.{slabs-in-order, slab-start-last, slab-of-holds, slab-of-iff}
 use Rattle.multipartition.proofs.Chains.{Chain, Rising, tilesOwned, chain-of, chain-rises, on-chain-iff}
-
-module _ {A : Type 0} where
-  -- a call that is answered has passed its first check
-  answered-passed : (fails : Bool) (number place : ℕ) (later : Answer A) (a : A) → cond fails (refused number place) later ≡ answered a
-      → (fails ≡ false) × (later ≡ answered a)
-  answered-passed true number place later a e = let clash : _≡_ {A = ℕ} 0 1 = cc in absurd (omega arith)
-  answered-passed false number place later a e = (refl, e)
-
-  -- what it takes to pass a check
-  answered-iff : (ok : Bool) (number place : ℕ) (later : Answer A) (a : A)
-      → (cond (not ok) (refused number place) later ≡ answered a) ↔ ((ok ≡ true) × (later ≡ answered a))
-  answered-iff ok number place later a = (
-    λ e. let passed = answered-passed (not ok) number place later a e in (not-false ok (passed .0), passed .1),
-    λ h. rw (h .0) (h .1),
-  )
-
-  answered-injective : (a b : A) → answered a ≡ answered b → a ≡ b
-  answered-injective a b e = cc
 
 module _ (plan : Layout) where
   -- ---- tile numbers and positions

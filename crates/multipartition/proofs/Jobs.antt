@@ -15,6 +15,7 @@ use Rattle.multipartition.specs.Answers.{Answer, answered, refused}
 use Rattle.multipartition.specs.Cuts.{Fits, Even, cheapest}
 use Rattle.multipartition.specs.Plans.{Layout, layoutWith, between, inShape}
 use Rattle.multipartition.specs.Jobs.{InRange, Passed, firstOutside, planWith, planAnswer}
+use Rattle.multipartition.proofs.Answers.{answered-passed}
 use Rattle.multipartition.proofs.Cheapest.{cheapest-fits, cheapest-even, cheapest-none}
 use Rattle.multipartition.proofs.Plans.{between-true-iff, layout-in-shape}
 
@@ -48,11 +49,6 @@ pub record PlanFor (p d : ℕ) (extents weights : List ℕ) (plan : Layout) : Ty
   pub passed : Passed p d extents weights
   pub cuts-are : cheapest p extents weights ≡ some (plan .cuts)
   pub plan-is : plan ≡ layoutWith p extents weights (plan .cuts)
-
-passed-check : (fails : Bool) (number place : ℕ) (later : Answer Layout) (plan : Layout)
-    → cond fails (refused number place) later ≡ answered plan → (fails ≡ false) × (later ≡ answered plan)
-passed-check true number place later plan e = let clash : _≡_ {A = ℕ} 0 1 = cc in absurd (omega arith)
-passed-check false number place later plan e = (refl, e)
 
 pub or-false : (s t : Bool) → s || t ≡ false → (s ≡ false) × (t ≡ false)
 or-false true t e = let clash : _≡_ {A = ℕ} 0 1 = cc in absurd (omega arith)
@@ -94,10 +90,10 @@ module _ (p d : ℕ) (extents weights : List ℕ) where
     pub plan-answered : planAnswer p d extents weights ≡ answered plan → PlanFor p d extents weights plan
     unfolding planAnswer planWith Extent
     plan-answered e =
-        let first = passed-check (not (between 2 5 d)) 1 0 after-1 plan e in
-        let second = passed-check (not (between 1 4096 p)) 2 0 after-2 plan (first .1) in
-        let third = passed-check (not (eqb (length extents) d) || not (eqb (length weights) d)) 3 0 after-3 plan (second .1) in
-        let fourth = passed-check (not (eqb (firstOutside 1 extents) 0)) 4 (firstOutside 1 extents) after-4 plan (third .1) in
+        let first = answered-passed (not (between 2 5 d)) 1 0 after-1 plan e in
+        let second = answered-passed (not (between 1 4096 p)) 2 0 after-2 plan (first .1) in
+        let third = answered-passed (not (eqb (length extents) d) || not (eqb (length weights) d)) 3 0 after-3 plan (second .1) in
+        let fourth = answered-passed (not (eqb (firstOutside 1 extents) 0)) 4 (firstOutside 1 extents) after-4 plan (third .1) in
         let d-range = between-true-iff 2 5 d .0 (not-false (between 2 5 d) (first .0)) in
         let p-range = between-true-iff 1 4096 p .0 (not-false (between 1 4096 p) (second .0)) in
         let many = or-false (not (eqb (length extents) d)) (not (eqb (length weights) d)) (third .0) in

@@ -2,6 +2,7 @@ pub mod Grids
 pub mod WholeNumbers
 pub mod MixedRadix
 pub mod Tests
+pub mod Answers
 pub mod Order
 pub mod Cheapest
 pub mod Tiles

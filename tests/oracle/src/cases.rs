@@ -46,10 +46,14 @@ pub fn fixed() -> Vec<Vec<u8>> {
 
 /// All texts of up to four of these bytes: what a reader meets first.
 pub fn short_texts() -> Vec<Vec<u8>> {
-    let bytes = b"01 \n-";
-    let mut all: Vec<Vec<u8>> = vec![Vec::new()];
+    texts(b"01 \n-", 4)
+}
+
+/// All texts of these bytes, up to a length.
+pub fn texts(bytes: &[u8], up_to: usize) -> Vec<Vec<u8>> {
+    let mut all = vec![Vec::new()];
     let mut from = 0;
-    for _ in 0..4 {
+    for _ in 0..up_to {
         let to = all.len();
         for at in from..to {
             for &byte in bytes {

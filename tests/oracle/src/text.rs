@@ -47,6 +47,7 @@ pub fn read(input: &[u8]) -> Result<Vec<u32>, Refusal> {
 #[cfg(test)]
 mod tests {
     use super::*;
+    use crate::cases::texts;
 
     #[test]
     fn readable_lines() {
@@ -100,22 +101,6 @@ mod tests {
             assert_eq!(place_of_refusal(text), place, "{text:?}");
             assert_eq!(read(text), Err(Refusal::at(10, place)));
         }
-    }
-
-    /// All texts over the bytes, up to a length.
-    fn texts(bytes: &[u8], up_to: usize) -> Vec<Vec<u8>> {
-        let mut all = vec![Vec::new()];
-        let mut from = 0;
-        for _ in 0..up_to {
-            let to = all.len();
-            for at in from..to {
-                for &byte in bytes {
-                    all.push([&all[at][..], &[byte]].concat());
-                }
-            }
-            from = to;
-        }
-        all
     }
 
     #[test]
