@@ -50,9 +50,9 @@ fn less(p: u32, x: u32, t: u32, y: u32) -> u32
 }
 
 // Column c of row i modulo p, from the same column of the rows before it.
-fn entry(p: u32, cuts: [u32; 5], moduli: [u32; 5], rows: [u32; 25], i: usize, c: usize) -> u32
-    requires { ⌜ Before p cuts moduli rows i c ⌝ }
-    ensures { λ r. ⌜ (Stands p (rowAt (at cuts) (at moduli) i (suc c)) r) × (r ≤ 4096) ⌝ }
+fn entry(p: u32, cuts: &[u32; 5], moduli: &[u32; 5], rows: &[u32; 25], i: usize, c: usize) -> u32
+    requires { ⌜ Before p (now cuts) (now moduli) (now rows) i c ⌝ }
+    ensures { λ r. ⌜ (Stands p (rowAt (at (now (cuts .entry))) (at (now (moduli .entry))) i (suc c)) r) × (r ≤ 4096) ⌝ }
 {
     let mut x = started(i, c);
     let mut r = moduli[i];
@@ -75,15 +75,15 @@ fn finish_rows(p: u32, cuts: [u32; 5], moduli: [u32; 5], d: usize) -> [u32; 25]
     let mut rows: [u32; 25] = [0; 25];
     let places = d * 5;
     for n in 0..places {
-        rows[n] = entry(p, cuts, moduli, rows, n / 5, n % 5);
+        rows[n] = entry(p, &cuts, &moduli, &rows, n / 5, n % 5);
     }
     rows
 }
 
 // Place n of the matrix: the remainder by the row's modulus, and zero past row and column d.
-fn reduced(moduli: [u32; 5], rows: [u32; 25], d: usize, n: usize) -> u32
-    requires { ⌜ (d ≤ 5) × (n < 25) × ((k : ℕ) → k < d → 1 ≤ at moduli k) ⌝ }
-    ensures { λ r. ⌜ r ≡ reducedAt moduli rows d n ⌝ }
+fn reduced(moduli: &[u32; 5], rows: &[u32; 25], d: usize, n: usize) -> u32
+    requires { ⌜ (d ≤ 5) × (n < 25) × ((k : ℕ) → k < d → 1 ≤ at (now moduli) k) ⌝ }
+    ensures { λ r. ⌜ r ≡ reducedAt (now (moduli .entry)) (now (rows .entry)) d n ⌝ }
 {
     let i = n / 5;
     let c = n % 5;
@@ -104,7 +104,7 @@ pub fn matrix_of(p: u32, cuts: [u32; 5], moduli: [u32; 5], d: usize) -> [u32; 25
     let rows = finish_rows(p, cuts, moduli, d);
     let mut matrix: [u32; 25] = [0; 25];
     for n in 0..25 {
-        matrix[n] = reduced(moduli, rows, d, n);
+        matrix[n] = reduced(&moduli, &rows, d, n);
     }
     matrix
 }

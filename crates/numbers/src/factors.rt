@@ -2,7 +2,7 @@
 ghost use mathlib.Core.Path.{_≡_};
 ghost use Prim.Native.Nat.{_*_, _<_, _≤_, min};
 ghost use Rattle.numbers.specs.Sums.{same};
-ghost use Rattle.numbers.specs.LeastFactor.{leastFactor, leastFactorAnswer, Prime};
+ghost use Rattle.numbers.specs.LeastFactor.{leastFactor, leastFactorAnswer, LeastFactors, Prime};
 ghost use Rattle.numbers.specs.Divisors.{divisorsOf, divisorsAnswer, Listed};
 use crate::entries::LEAST;
 use crate::listing::Divisors;
@@ -17,15 +17,24 @@ pub fn least_factor(n: usize) -> u16
     if n > 4096 {
         return 0;
     }
-    least(n)
+    let entries = table();
+    least(&entries, n)
+}
+
+// The table, which is made anew wherever it is named: a caller has it once and lends it for each lookup.
+fn table() -> [u16; 4097]
+    ensures { λ r. ⌜ LeastFactors r ⌝ }
+{
+    LEAST
 }
 
 // The entry of the table at n.
-fn least(n: usize) -> u16
+fn least(entries: &[u16; 4097], n: usize) -> u16
+    requires { ⌜ LeastFactors (now entries) ⌝ }
     requires { ⌜ (1 < n) × (n ≤ 4096) ⌝ }
     ensures { λ r. ⌜ r ≡ leastFactor n ⌝ }
 {
-    LEAST[n]
+    entries[n]
 }
 
 // The divisors of n, rising; none of 0 and of the numbers above 4096.
@@ -52,13 +61,14 @@ fn by_factors(n: u32) -> Divisors
     requires { ⌜ (0 < n) × (n ≤ 4096) ⌝ }
     ensures { λ r. ⌜ Listed (divisorsOf n) (r .count) (r .of) ⌝ }
 {
+    let entries = table();
     let mut of = [0u32; 128];
     of[0] = 1;
     let mut known = Divisors { count: 1, of: of };
     let mut done = 1u32;
     let mut rest = n;
     while rest > 1 {
-        let f = least(rest as usize) as u32;
+        let f = least(&entries, rest as usize) as u32;
         known = times_prime(known, done, f);
         done = f * done;
         rest = rest / f;

@@ -9,10 +9,10 @@ use Rattle.matrix.proofs.finish_rows.Statement.{statement}
 use Rattle.matrix.proofs.finish_rows.Tie as tie
 
 abbrev Inv-loop : tie.InvT-loop
-Inv-loop p cuts moduli d rows₀ places n₀ rows n = (n ≤ places) × Finished p cuts moduli rows n
+Inv-loop p d cuts moduli rows₀ places n₀ rows n = (n ≤ places) × Finished p cuts moduli rows n
 
 abbrev μ-loop : tie.MeasureT-loop
-μ-loop p cuts moduli d rows₀ places n₀ rows n = places - n
+μ-loop p d cuts moduli rows₀ places n₀ rows n = places - n
 
 mul-places : tie.Need-mul-places Inv-loop μ-loop
 mul-places c = search needs
@@ -22,8 +22,8 @@ loop-holds c = (omega arith, finished-none _ _ _)
 
 entry-requires : tie.Need-entry-requires Inv-loop μ-loop
 entry-requires c κs =
-    let start = c .before .before in
-    let n : ℕ = c .before .loop .n in
+    let start = c .before .before .before .before .before in
+    let n : ℕ = c .before .before .before .before .loop .n in
     let place : n / 5 * 5 + n % 5 ≡ n = omega arith in
     record {
       p-low = start .pre .0;
@@ -31,7 +31,7 @@ entry-requires c κs =
       row = omega arith;
       column = omega arith;
       divides = λ k l. start .pre .3 k (omega arith);
-      finished = rw place (c .before .loop .inv .1);
+      finished = rw place (c .before .before .before .before .loop .inv .1);
     }
 
 mul-rows : tie.Need-mul-rows Inv-loop μ-loop
@@ -48,7 +48,7 @@ loop-less c = search needs
 
 loop-again : tie.Need-loop-again Inv-loop μ-loop
 loop-again c =
-    let at-loop = c .before .before in
+    let at-loop = c .before .before .before .before .before in
     (omega arith, finished-more _ _ _ _ _ _ (omega arith) (at-loop .loop .inv .1) (c .entry .ensures .0) (c .entry .ensures .1))
 
 returns : tie.Need-returns Inv-loop μ-loop

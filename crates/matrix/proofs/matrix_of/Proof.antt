@@ -12,10 +12,10 @@ use Rattle.matrix.proofs.matrix_of.Statement.{statement}
 use Rattle.matrix.proofs.matrix_of.Tie as tie
 
 abbrev Inv-loop : tie.InvT-loop
-Inv-loop p moduli d rows matrix₀ n₀ matrix n = (n ≤ 25) × (length matrix ≡ 25) × ((k : ℕ) → k < n → at matrix k ≡ reducedAt moduli rows d k)
+Inv-loop p d moduli rows matrix₀ n₀ matrix n = (n ≤ 25) × (length matrix ≡ 25) × ((k : ℕ) → k < n → at matrix k ≡ reducedAt moduli rows d k)
 
 abbrev μ-loop : tie.MeasureT-loop
-μ-loop p moduli d rows matrix₀ n₀ matrix n = 25 - n
+μ-loop p d moduli rows matrix₀ n₀ matrix n = 25 - n
 
 finish-rows-requires : tie.Need-finish-rows-requires Inv-loop μ-loop
 finish-rows-requires c κs = (c .pre .0, c .pre .1, c .pre .2, dividing _ _ _ _ (c .pre .0) (c .pre .2) (omega (arith, c .good .1 .0)) (c .pre .3))
@@ -25,7 +25,7 @@ loop-holds c = search needs
 
 reduced-requires : tie.Need-reduced-requires Inv-loop μ-loop
 reduced-requires c κs =
-    let start = c .before .before .before in
+    let start = c .before .before .before .before .before in
     let divides = dividing _ _ _ _ (start .pre .0) (start .pre .2) (omega (arith, start .good .1 .0)) (start .pre .3) in
     (start .pre .2, omega arith, λ k l. pos-of-dvd-of-pos (divides k l) (start .pre .0))
 
@@ -43,7 +43,7 @@ loop-less c = search needs
 
 loop-again : tie.Need-loop-again Inv-loop μ-loop
 loop-again c =
-    let at-loop = c .before .before in (
+    let at-loop = c .before .before .before .before in (
       omega arith,
       length-set (at-loop .loop .matrix) (at-loop .loop .n) (c .reduced .result) ∙ at-loop .loop .inv .1,
       filled-more _ (at-loop .loop .matrix) (at-loop .loop .n) _ (omega arith) (at-loop .loop .inv .2) (c .reduced .ensures),
