@@ -13,9 +13,9 @@ use lib.Dec.{eqb}
 use lib.ListN.{length}
 use Rattle.numbers.specs.Products.{product, without}
 use Rattle.multipartition.specs.Lists.{allBelow, startingWith, those}
-use Rattle.multipartition.specs.Cuts.{Even, isEven, Fits, fitting, costOf, precedes, preferred, chosen, cheapest}
+use Rattle.multipartition.specs.Cuts.{Even, isEven, Fits, fitting, costOf, Precedes, precedes, preferred, chosen, cheapest}
 use Rattle.multipartition.proofs.Tests.{false-not-true, allBelow-true-iff}
-use Rattle.multipartition.proofs.Order.{Precedes, precedes-true, precedes-refl, precedes-trans, precedes-antisymm, precedes-total, precedes-le}
+use Rattle.multipartition.proofs.Order.{precedes-true, precedes-refl, precedes-trans, precedes-antisymm, precedes-total, precedes-le}
 
 -- What an answer must be: even, fitting cuts that precede all others; or nothing, where no fitting cuts are even.
 abbrev pub Cheapest : ℕ → List ℕ → List ℕ → Option (List ℕ) → Type 0

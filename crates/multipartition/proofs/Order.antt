@@ -1,5 +1,5 @@
--- The order among cuts is a total order. `Precedes` is what the test `precedes` decides. Others use the order by the laws that begin with
--- `precedes`, so that what decides among equal costs is said here only.
+-- The order among cuts is a total order, and the test `precedes` decides it. Others use the order by the laws that begin with `precedes`, so that
+-- only this file depends on what decides among equal costs.
 use mathlib.Core.Path.{_≡_, refl, _∙_, ap, ap₂}
 use mathlib.Core.Logic.{_⊎_, inl, inr, ⊎-elim, _↔_}
 use mathlib.Core.Bool.{Bool, true, false, _&&_, _||_}
@@ -9,15 +9,10 @@ use native.Mathlib.Nat.{le-refl, le-of-lt, mul-le-mul-right, eq-or-lt-of-le}
 use native.Mathlib.Omega.{arith}
 use lib.Dec.{ltb, eqb}
 use borrow.Author.Tests.{ltb-true, ltb-false, eqb-true, lt-ltb, eq-eqb}
-use Rattle.multipartition.specs.Cuts.{costOf, notLater, precedes}
+use Rattle.multipartition.specs.Cuts.{costOf, NotLater, notLater, Precedes, precedes}
 use Rattle.multipartition.proofs.Tests.{and-true-iff, or-true-iff}
 
 -- ---- the smaller cut at the first dimension where they differ
-
-abbrev pub NotLater : List ℕ → List ℕ → Type 0
-NotLater [] v = Unit {0}
-NotLater (b ∷ u) [] = ⊥
-NotLater (b ∷ u) (c ∷ v) = (b < c) ⊎ ((b ≡ c) × NotLater u v)
 
 -- a test by two numbers, and another test among equals
 smaller-or-equal : (m n : ℕ) (t : Bool) (T : Type 0) → (t ≡ true) ↔ T → (ltb m n || (eqb m n && t) ≡ true) ↔ ((m < n) ⊎ ((m ≡ n) × T))
@@ -72,10 +67,6 @@ notLater-total (b ∷ u) [] = inr tt
 notLater-total (b ∷ u) (c ∷ v) = one-first b c (NotLater u v) (NotLater v u) (notLater-total u v)
 
 -- ---- the order among cuts
-
--- u is chosen rather than v, or is v
-pub Precedes : List ℕ → List ℕ → List ℕ → Type 0
-Precedes weights u v = (costOf weights u < costOf weights v) ⊎ ((costOf weights u ≡ costOf weights v) × NotLater u v)
 
 pub precedes-true : (weights u v : List ℕ) → (precedes weights u v ≡ true) ↔ Precedes weights u v
 unfolding precedes Precedes

@@ -1,4 +1,6 @@
 -- Choosing the cuts (document 01, "Choosing the cuts").
+use mathlib.Core.Path.{_≡_}
+use mathlib.Core.Logic.{_⊎_}
 use mathlib.Core.Bool.{Bool, true, false, cond, _&&_, _||_}
 use mathlib.Core.List.{List, [], _∷_}
 use mathlib.Core.Option.{Option, none, some}
@@ -35,6 +37,12 @@ costOf (w ∷ weights) [] = 0
 costOf (w ∷ weights) (b ∷ cuts) = b * w + costOf weights cuts
 
 -- u has the smaller cut at the first dimension where u and v differ, or they differ nowhere
+abbrev pub NotLater : List ℕ → List ℕ → Type 0
+NotLater [] v = Unit {0}
+NotLater (b ∷ u) [] = ⊥
+NotLater (b ∷ u) (c ∷ v) = (b < c) ⊎ ((b ≡ c) × NotLater u v)
+
+-- the same as a test
 unfoldable pub notLater : List ℕ → List ℕ → Bool
 notLater [] v = true
 notLater (b ∷ u) [] = false
@@ -42,6 +50,10 @@ notLater (b ∷ u) (c ∷ v) = ltb b c || (eqb b c && notLater u v)
 
 -- The order among cuts: u is chosen rather than v if it has the "least cost; among equals, those with the smaller cut at the first dimension
 -- where they differ".
+unfoldable pub Precedes : List ℕ → List ℕ → List ℕ → Type 0
+Precedes weights u v = (costOf weights u < costOf weights v) ⊎ ((costOf weights u ≡ costOf weights v) × NotLater u v)
+
+-- the same as a test
 unfoldable pub precedes : List ℕ → List ℕ → List ℕ → Bool
 precedes weights u v = ltb (costOf weights u) (costOf weights v) || (eqb (costOf weights u) (costOf weights v) && notLater u v)
 
