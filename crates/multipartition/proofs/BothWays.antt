@@ -16,7 +16,7 @@ use Rattle.multipartition.specs.Answers.{Answer, answered, refused}
 use Rattle.multipartition.specs.Owners.{ownerAt}
 use Rattle.multipartition.specs.Tiles.{Inside, isInside, tileNumber, positionOf, oneStepOn}
 use Rattle.multipartition.specs.Slabs.{slabStart, slabEnd, slabOf}
-use Rattle.multipartition.specs.Chains.{headsOf, nextsOf}
+use Rattle.multipartition.specs.Chains.{headsOf, nextsOf, Chain, Rising}
 use Rattle.multipartition.specs.Plans.{Layout, tilesOf, between, dimensionOk, rowOk, inShape}
 use Rattle.multipartition.specs.Questions.{extentOf, cutOf, tileOwner, ownerAnswer, numberAnswer, stepAnswer, positionAnswer, slabAnswer, slabOfAnswer, chainsAnswer}
 use Rattle.multipartition.proofs.Tests.{and-true-iff, allBelow-true-iff}
@@ -24,7 +24,7 @@ use Rattle.multipartition.proofs.Answers.{answered-iff, answered-inject
 use Rattle.multipartition.proofs.Plans.{between-true-iff}
 use Rattle.multipartition.proofs.Tiles.{inside-of-test, test-of-inside, number-low, number-high, position-inside, position-of-number, number-of-position, one-step-on-inside, step-back}
 use Rattle.multipartition.proofs.Slabs.{slabs-in-order, slab-start-last, slab-of-holds, slab-of-iff}
-use Rattle.multipartition.proofs.Chains.{Chain, Rising, tilesOwned, chain-of, chain-rises, on-chain-iff}
+use Rattle.multipartition.proofs.Chains.{tilesOwned, owned-iff, chain-of, chain-rises}
 
 module _ (plan : Layout) where
   -- ---- tile numbers and positions
@@ -224,14 +224,14 @@ module _ (plan : Layout) where
   )
 
   chains-answered : (h n : ℕ) (heads nexts : List ℕ) → chainsAnswer plan h n ≡ answered (heads, nexts)
-      → (headsOf (tileOwner plan) (tilesOf plan) (plan .p) ≡ heads) × (nextsOf (tileOwner plan) (tilesOf plan) ≡ nexts)
+      → (inShape plan ≡ true) × (headsOf (tileOwner plan) (tilesOf plan) (plan .p) ≡ heads) × (nextsOf (tileOwner plan) (tilesOf plan) ≡ nexts)
   unfolding chainsAnswer
   chains-answered h n heads nexts e =
       let shape = answered-iff (inShape plan) 6 0 (cond (not (eqb h (plan .p))) (refused 9 0) after) (heads, nexts) .0 e in
       let first = answered-iff (eqb h (plan .p)) 9 0 after (heads, nexts) .0 (shape .1) in
       let second = answered-iff (eqb n (tilesOf plan)) 9 0 (answered both) (heads, nexts) .0 (first .1) in
       let same : both ≡ (heads, nexts) = answered-injective both (heads, nexts) (second .1) in
-      (ap (λ (b : List ℕ × List ℕ). b .0) same, ap (λ (b : List ℕ × List ℕ). b .1) same)
+      (shape .0, ap (λ (b : List ℕ × List ℕ). b .0) same, ap (λ (b : List ℕ × List ℕ). b .1) same)
     where
       both : List ℕ × List ℕ
       both = (headsOf (tileOwner plan) (tilesOf plan) (plan .p), nextsOf (tileOwner plan) (tilesOf plan))
@@ -239,29 +239,39 @@ module _ (plan : Layout) where
       after : Answer (List ℕ × List ℕ)
       after = cond (not (eqb n (tilesOf plan))) (refused 9 0) (answered both)
 
-  -- from a processor's place in the first list the second leads through some tiles, rising, and ends; a tile is one of them exactly if the
-  -- processor owns it
+  -- from a processor's place in the first list the second leads through some numbers, rising, and ends; a number is one of them exactly if it is
+  -- the number of a tile and the processor owns that tile
   pub chain-iff-owner : (h n : ℕ) (heads nexts : List ℕ) → chainsAnswer plan h n ≡ answered (heads, nexts) → (q : ℕ) → q < plan .p
       → (tiles : List ℕ) × Chain nexts (getD heads q 0) tiles × Rising 1 tiles
-      × ((t : ℕ) (x : List ℕ) → positionAnswer plan t ≡ answered x → List·Memᴰ t tiles ↔ (ownerAnswer plan x ≡ answered q))
+      × ((t : ℕ) → List·Memᴰ t tiles ↔ ((x : List ℕ) × (positionAnswer plan t ≡ answered x) × (ownerAnswer plan x ≡ answered q)))
   chain-iff-owner h n heads nexts e q l = (
-    tilesOwned (tileOwner plan) q 1 (tilesOf plan),
-    subst (λ (next : List ℕ). Chain next (getD heads q 0) (tilesOwned (tileOwner plan) q 1 (tilesOf plan))) (lists .1)
-        (subst (λ (head : List ℕ). Chain (nextsOf (tileOwner plan) (tilesOf plan)) (getD head q 0) (tilesOwned (tileOwner plan) q 1 (tilesOf plan))) (lists .0)
+    owned,
+    subst (λ (next : List ℕ). Chain next (getD heads q 0) owned) (lists .2)
+        (subst (λ (head : List ℕ). Chain (nextsOf (tileOwner plan) (tilesOf plan)) (getD head q 0) owned) (lists .1)
         (chain-of (tileOwner plan) q (tilesOf plan) (plan .p) l)),
     chain-rises (tileOwner plan) q (tilesOf plan),
-    on-chain,
+    λ t. (there t, back t),
   )
     where
-      lists : (headsOf (tileOwner plan) (tilesOf plan) (plan .p) ≡ heads) × (nextsOf (tileOwner plan) (tilesOf plan) ≡ nexts)
+      owned : List ℕ
+      owned = tilesOwned (tileOwner plan) q 1 (tilesOf plan)
+
+      lists : (inShape plan ≡ true) × (headsOf (tileOwner plan) (tilesOf plan) (plan .p) ≡ heads) × (nextsOf (tileOwner plan) (tilesOf plan) ≡ nexts)
       lists = chains-answered h n heads nexts e
 
-      on-chain : (t : ℕ) (x : List ℕ) → positionAnswer plan t ≡ answered x
-          → List·Memᴰ t (tilesOwned (tileOwner plan) q 1 (tilesOf plan)) ↔ (ownerAnswer plan x ≡ answered q)
-      on-chain t x f =
+      there : (t : ℕ) → List·Memᴰ t owned → (x : List ℕ) × (positionAnswer plan t ≡ answered x) × (ownerAnswer plan x ≡ answered q)
+      there t on =
+          let h = owned-iff (tileOwner plan) q t 1 (tilesOf plan) .0 on in
+          let high : t ≤ tilesOf plan = omega (arith, h .1) in (
+            positionOf (plan .cuts) t,
+            position-answered t (positionOf (plan .cuts) t) .1 (lists .0, (h .0, high), refl),
+            owner-answered (positionOf (plan .cuts) t) q (lists .0) (position-inside (plan .cuts) t (h .0) high) .1 (h .2),
+          )
+
+      back : (t : ℕ) → (x : List ℕ) × (positionAnswer plan t ≡ answered x) × (ownerAnswer plan x ≡ answered q) → List·Memᴰ t owned
+      back t (x, f, a) =
           let place = position-answered t x .0 f in
-          let inside : Inside (plan .cuts) x = subst (λ (y : List ℕ). Inside (plan .cuts) y) (place .2) (position-inside (plan .cuts) t (place .1 .0) (place .1 .1)) in
+          let inside : Inside (plan .cuts) x = subst (Inside (plan .cuts)) (place .2) (position-inside (plan .cuts) t (place .1 .0) (place .1 .1)) in
           let owner : tileOwner plan t ≡ ownerAt (plan .moduli) (plan .matrix) x = ap (ownerAt (plan .moduli) (plan .matrix)) (place .2) in
-          let chain = on-chain-iff (tileOwner plan) q (tilesOf plan) t (place .1 .0) (place .1 .1) in
-          let answer = owner-answered x q (place .0) inside in
-          (λ m. answer .1 (sym owner ∙ chain .0 m), λ a. chain .1 (owner ∙ answer .0 a))
+          owned-iff (tileOwner plan) q t 1 (tilesOf plan) .1
+          (place .1 .0, omega (arith, place .1 .1), owner ∙ owner-answered x q (place .0) inside .0 a)

@@ -11,7 +11,7 @@ use lib.Dec.{eqb}
 use lib.ListN.{length, getD}
 use borrow.Author.Tests.{eqb-true, eqb-false}
 use Rattle.multipartition.specs.Lists.{listOf}
-use Rattle.multipartition.specs.Chains.{lowest, nextHigher, headsOf, nextsOf}
+use Rattle.multipartition.specs.Chains.{lowest, nextHigher, headsOf, nextsOf, Chain, ends, goes-on, Rising}
 use Rattle.multipartition.proofs.Tests.{by-cond}
 
 pub length-listOf : (from n : ℕ) (f : ℕ → ℕ) → length (listOf from n f) ≡ n
@@ -25,16 +25,6 @@ getD-listOf from zero f i l = absurd (omega arith)
 getD-listOf from (suc n) f zero l = let e : from ≡ from + 0 = omega arith in ap f e
 getD-listOf from (suc n) f (suc i) l =
     let e : suc from + i ≡ from + suc i = omega arith in getD-listOf (suc from) n f i (omega arith) ∙ ap f e
-
--- following the second list from a tile on: the tiles on the way; "zero ends the chain"
-pub data Chain (nexts : List ℕ) : ℕ → List ℕ → Type 0 where
-  ends : Chain nexts 0 []
-  goes-on : (tile : ℕ) (tiles : List ℕ) → 1 ≤ tile → Chain nexts (getD nexts (tile - 1) 0) tiles → Chain nexts tile (tile ∷ tiles)
-
--- tiles from `low` on, each above the one before
-abbrev pub Rising : ℕ → List ℕ → Type 0
-Rising low [] = Unit {0}
-Rising low (tile ∷ tiles) = (low ≤ tile) × Rising (suc tile) tiles
 
 module _ (own : ℕ → ℕ) (q : ℕ) where
   -- ---- the lowest tile of a processor
@@ -103,6 +93,7 @@ module _ (own : ℕ → ℕ) (q : ℕ) where
       (λ above. owned-all tile (suc from) count above (omega arith) e)
       (eq-or-lt-of-le l))
 
+  -- a number is one of them exactly if it is one of those tiles and q owns it
   pub owned-iff : (tile from count : ℕ) → List·Memᴰ tile (tilesOwned from count) ↔ (from ≤ tile) × (tile < from + count) × (own tile ≡ q)
   owned-iff tile from count = (owned-are tile from count, λ h. owned-all tile from count (h .0) (h .1) (h .2))
 
@@ -137,7 +128,3 @@ module _ (own : ℕ → ℕ) (q : ℕ) where
   -- the chain rises
   pub chain-rises : (n : ℕ) → Rising 1 (tilesOwned 1 n)
   chain-rises n = owned-rising 1 1 n (omega arith)
-
-  -- a tile is on the chain of its owner, and on no other
-  pub on-chain-iff : (n tile : ℕ) → 1 ≤ tile → tile ≤ n → List·Memᴰ tile (tilesOwned 1 n) ↔ (own tile ≡ q)
-  on-chain-iff n tile l m = (λ h. owned-are tile 1 n h .2, λ e. owned-all tile 1 n l (omega arith) e)
