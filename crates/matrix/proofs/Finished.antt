@@ -12,7 +12,8 @@ use lib.Seq.{length-take-le, getD-take, getD-set-same, getD-set-other}
 use Rattle.multipartition.specs.Moduli.{moduliOf}
 use Rattle.multipartition.specs.Matrix.{Row, remainder, matrixOf}
 use Rattle.multipartition.specs.Plans.{entryAt}
-use Rattle.multipartition.proofs.WholeNumbers.{Stands, stands-dvd, stands-remainder}
+use Rattle.multipartition.specs.WholeNumbers.{Stands}
+use Rattle.multipartition.proofs.WholeNumbers.{stands-dvd, stands-remainder}
 use Rattle.layout.specs.Plans.{five}
 use Rattle.matrix.specs.Rows.{rowAt, at, Dividing, Finished, reducedAt}
 use Rattle.matrix.proofs.Padding.{five-at}

@@ -10,7 +10,8 @@ use Rattle.numbers.proofs.Gcd.{gcd-dvd-right}
 use Rattle.numbers.proofs.Congruence.{Congruent, congruent-add, congruent-cancel-add, add-multiple}
 use Rattle.numbers.proofs.Sums.{same-yes, same-no}
 use Rattle.multipartition.specs.Matrix.{Row, factor, finish}
-use Rattle.multipartition.proofs.WholeNumbers.{Stands, stands-nat, stands-take, stands-congruent}
+use Rattle.multipartition.specs.WholeNumbers.{Stands}
+use Rattle.multipartition.proofs.WholeNumbers.{stands-nat, stands-take, stands-congruent}
 use Rattle.matrix.specs.Rows.{backward, startAt, rowAt, at, Before}
 use Rattle.matrix.proofs.Rows.{row-finish, finish-step, finish-none}
 

@@ -9,7 +9,7 @@ use lib.IntN.{pos}
 use lib.ListN.{getD, length}
 use Rattle.numbers.specs.Sums.{same}
 use Rattle.multipartition.specs.Matrix.{Row, startRow, finish, finishedRows}
-use Rattle.multipartition.proofs.WholeNumbers.{Stands}
+use Rattle.multipartition.specs.WholeNumbers.{Stands}
 
 -- f n, .., f 1
 unfoldable pub backward : {A : Type 0} → (ℕ → A) → ℕ → List A

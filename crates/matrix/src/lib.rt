@@ -7,7 +7,7 @@ ghost use lib.IntN.{pos};
 ghost use lib.ListN.{take, replicate};
 ghost use Rattle.multipartition.specs.Moduli.{moduliOf};
 ghost use Rattle.multipartition.specs.Matrix.{matrixOf};
-ghost use Rattle.multipartition.proofs.WholeNumbers.{Stands};
+ghost use Rattle.multipartition.specs.WholeNumbers.{Stands};
 ghost use Rattle.layout.specs.Plans.{five, flat};
 ghost use Rattle.matrix.specs.Rows.{startAt, rowAt, at, Dividing, Finished, Before, reducedAt};
 

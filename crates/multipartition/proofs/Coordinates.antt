@@ -19,7 +19,8 @@ use Rattle.multipartition.specs.Moduli.{moduliOf}
 use Rattle.multipartition.specs.Matrix.{remainder, Row, firstRow, restRows, startRow, factor, next, finish, finishedRows, rowsOf, remaindersOf, matrixOf}
 use Rattle.multipartition.specs.MixedRadix.{numberFrom}
 use Rattle.multipartition.specs.Owners.{times, coordinatesAt, ownerAt, ownerOf}
-use Rattle.multipartition.proofs.WholeNumbers.{Stands, stands-take, stands-remainder, stands-dvd, stands-nat}
+use Rattle.multipartition.specs.WholeNumbers.{Stands}
+use Rattle.multipartition.proofs.WholeNumbers.{stands-take, stands-remainder, stands-dvd, stands-nat}
 use Rattle.multipartition.proofs.Moduli.{length-moduli, first-modulus, remains, remains-dvd, moduliDown, moduliDown-reverse}
 use Rattle.multipartition.proofs.GridSums.{getD-reverseAux-past}
 use Rattle.multipartition.proofs.Rows.{taken, values}

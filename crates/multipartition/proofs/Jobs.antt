@@ -14,7 +14,7 @@ use lib.ListN.{length, getD}
 use Rattle.multipartition.specs.Answers.{Answer, answered, refused}
 use Rattle.multipartition.specs.Cuts.{Fits, Even, cheapest}
 use Rattle.multipartition.specs.Plans.{Layout, layoutWith, between, inShape}
-use Rattle.multipartition.specs.Jobs.{InRange, Passed, firstOutside, planWith, planAnswer}
+use Rattle.multipartition.specs.Jobs.{InRange, Passed, PlanFor, firstOutside, planWith, planAnswer}
 use Rattle.multipartition.proofs.Answers.{answered-passed}
 use Rattle.multipartition.proofs.Cheapest.{cheapest-fits, cheapest-even, cheapest-none}
 use Rattle.multipartition.proofs.Plans.{between-true-iff, layout-in-shape}
@@ -43,12 +43,6 @@ unfolding firstOutside Extent
 firstOutside-of-extents i [] h = refl
 firstOutside-of-extents i (n ∷ extents) h =
     rw (between-true-iff 1 1000000 n .1 (h 0 (zero-lt-suc (length extents)))) (firstOutside-of-extents (suc i) extents (λ k l. h (suc k) (omega arith)))
-
--- what the answer `plan` to a job says
-pub record PlanFor (p d : ℕ) (extents weights : List ℕ) (plan : Layout) : Type 0 where
-  pub passed : Passed p d extents weights
-  pub cuts-are : cheapest p extents weights ≡ some (plan .cuts)
-  pub plan-is : plan ≡ layoutWith p extents weights (plan .cuts)
 
 pub or-false : (s t : Bool) → s || t ≡ false → (s ≡ false) × (t ≡ false)
 or-false true t e = let clash : _≡_ {A = ℕ} 0 1 = cc in absurd (omega arith)

@@ -9,7 +9,7 @@ use native.Mathlib.Omega.{arith}
 use lib.Dec.{ltb}
 use borrow.Author.Tests.{ltb-true, ltb-false}
 use Rattle.multipartition.specs.Lists.{listOf}
-use Rattle.multipartition.specs.Slabs.{slabStart, slabEnd, slabFrom, slabOf}
+use Rattle.multipartition.specs.Slabs.{slabStart, slabEnd, slabFrom, slabOf, InSlab}
 use Rattle.multipartition.proofs.Tests.{by-cond}
 
 -- ---- the laws of slabStart
@@ -27,10 +27,6 @@ unfolding slabStart
 slab-start-rises n b s low high l = le-div-iff-mul-le low .1 (omega (arith, div-mul-le-self (s * n) b))
 
 -- ---- what follows from them
-
--- slab s holds an element
-abbrev pub InSlab : ℕ → ℕ → ℕ → ℕ → Type 0
-InSlab n b s element = (slabStart n b s ≤ element) × (element < slabEnd n b s)
 
 module _ (n b : ℕ) (low : 1 ≤ b) (high : b ≤ n) where
   pub slab-nonempty : (s : ℕ) → s < b → slabStart n b s < slabEnd n b s

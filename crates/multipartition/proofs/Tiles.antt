@@ -15,7 +15,7 @@ use borrow.Author.Tests.{ltb-true, ltb-false, lt-ltb, le-ltb, eqb-true, eqb-fals
 use Rattle.numbers.specs.Products.{product}
 use Rattle.multipartition.specs.Lists.{startingWith}
 use Rattle.multipartition.specs.MixedRadix.{numberFrom, digitsOf}
-use Rattle.multipartition.specs.Tiles.{Inside, isInside, positions, tileNumber, positionOf, oneStepOn}
+use Rattle.multipartition.specs.Tiles.{Inside, isInside, positions, tileNumber, positionOf, oneStepOn, AtEdge}
 use Rattle.multipartition.proofs.Tests.{and-true-iff}
 use Rattle.multipartition.proofs.MixedRadix.{Positive, number-below, digits-inside, digits-from, digits-of-number, number-of-digits, number-set}
 
@@ -245,11 +245,6 @@ one-step-on-inside cuts position next k false h e =
     let taken = down-taken cuts position next k e in
     let below = coordinate-below cuts position k h (taken .0) in
     rw (← taken .1) (inside-set cuts position k (getD position k 0 - 1) h (omega arith))
-
--- the slab after which the grid ends: the last one upward, slab 0 downward
-abbrev pub AtEdge : Bool → ℕ → ℕ → Type 0
-AtEdge true b i = suc i ≡ b
-AtEdge false b i = i ≡ 0
 
 -- "'edge' if that step leaves the grid", and only then
 pub edge-iff : (cuts position : List ℕ) (k : ℕ) (up : Bool) → Inside cuts position → k < length cuts

@@ -9,19 +9,7 @@ use lib.Dec.{T, ltb, ltb→lt, nltb→le}
 use lib.IntN.{ℤ, pos, negsuc, negℤ, subℕ, _+ℤ_, _-ℤ_, _*ℤ_}
 use Rattle.numbers.proofs.Congruence.{Congruent, congruent-add, congruent-mul, congruent-cancel-add, congruent-of-dvd, add-multiple}
 use Rattle.multipartition.specs.Matrix.{remainder}
-
--- the two parts of a whole number: it is the first less the second
-abbrev pub plus : ℤ → ℕ
-plus (pos n) = n
-plus (negsuc n) = 0
-
-abbrev pub minus : ℤ → ℕ
-minus (pos n) = 0
-minus (negsuc n) = suc n
-
--- the natural number n stands for the whole number z modulo m
-unfoldable pub Stands : ℕ → ℤ → ℕ → Type 0
-Stands m z n = Congruent m (n + minus z) (plus z)
+use Rattle.multipartition.specs.WholeNumbers.{plus, minus, Stands}
 
 -- ---- sums, differences and multiples by their two parts
 

@@ -47,3 +47,9 @@ planWith p extents weights (some cuts) = answered (layoutWith p extents weights 
 -- the planner's answer
 unfoldable pub planAnswer : ℕ → ℕ → List ℕ → List ℕ → Answer Layout
 planAnswer p d extents weights = checked (jobChecks p d extents weights) (planWith p extents weights (cheapest p extents weights))
+
+-- what the answer `plan` to a job says
+pub record PlanFor (p d : ℕ) (extents weights : List ℕ) (plan : Layout) : Type 0 where
+  pub passed : Passed p d extents weights
+  pub cuts-are : cheapest p extents weights ≡ some (plan .cuts)
+  pub plan-is : plan ≡ layoutWith p extents weights (plan .cuts)

@@ -3,6 +3,7 @@ pub mod Answers
 pub mod Cuts
 pub mod Moduli
 pub mod Matrix
+pub mod WholeNumbers
 pub mod MixedRadix
 pub mod Owners
 pub mod Neighbours

@@ -1,6 +1,6 @@
 -- Slabs and their elements (document 01, "Tiles, slabs, chains"). An extent of n elements is cut into b slabs.
 use mathlib.Core.Bool.{cond}
-use Prim.Native.Nat.{ℕ, zero, suc, _*_, _/_}
+use Prim.Native.Nat.{ℕ, zero, suc, _*_, _/_, _≤_, _<_}
 use lib.Dec.{ltb}
 
 -- "Slab s of dimension k holds the elements from floor(s·nk/bk) up to but not including floor((s+1)·nk/bk)": the first element of slab s
@@ -19,3 +19,7 @@ slabFrom n b element s (suc count) = cond (ltb element (slabEnd n b s)) s (slabF
 -- "The slab of an element": the first that ends past it
 unfoldable pub slabOf : ℕ → ℕ → ℕ → ℕ
 slabOf n b element = slabFrom n b element 0 b
+
+-- slab s holds an element
+abbrev pub InSlab : ℕ → ℕ → ℕ → ℕ → Type 0
+InSlab n b s element = (slabStart n b s ≤ element) × (element < slabEnd n b s)

@@ -2,6 +2,7 @@
 use mathlib.Core.Bool.{Bool, true, false, cond, _&&_}
 use mathlib.Core.List.{List, [], _∷_}
 use mathlib.Core.Option.{Option, none, some}
+use mathlib.Core.Path.{_≡_}
 use Prim.Native.Nat.{ℕ, suc, _+_, _-_, _<_}
 use lib.Dec.{ltb, eqb}
 use lib.ListN.{getD, set}
@@ -40,3 +41,8 @@ unfoldable pub oneStepOn : List ℕ → ℕ → Bool → List ℕ → Option (Li
 oneStepOn cuts k true position =
     cond (ltb (suc (getD position k 0)) (getD cuts k 0)) (some (set position k (suc (getD position k 0)))) none
 oneStepOn cuts k false position = cond (eqb (getD position k 0) 0) none (some (set position k (getD position k 0 - 1)))
+
+-- the slab after which the grid ends: the last one upward, slab 0 downward
+abbrev pub AtEdge : Bool → ℕ → ℕ → Type 0
+AtEdge true b i = suc i ≡ b
+AtEdge false b i = i ≡ 0

@@ -14,8 +14,8 @@ use Rattle.numerals.proofs.Output.{written-front}
 use Rattle.multipartition.specs.Answers.{Answer, answered, refused, Check, checked}
 use Rattle.multipartition.specs.Cuts.{costOf, cheapest}
 use Rattle.multipartition.specs.Plans.{Layout, between, inShape}
-use Rattle.multipartition.specs.Jobs.{firstOutside, jobChecks, planWith, planAnswer}
-use Rattle.multipartition.proofs.Jobs.{PlanFor, plan-answered, plan-in-shape}
+use Rattle.multipartition.specs.Jobs.{PlanFor, firstOutside, jobChecks, planWith, planAnswer}
+use Rattle.multipartition.proofs.Jobs.{plan-answered, plan-in-shape}
 use Rattle.multipartition.proofs.Minimal.{cut-le}
 use Rattle.layout.specs.Plans.{layoutOf, planOf}
 use Rattle.layout.specs.Sized.{Sized}
