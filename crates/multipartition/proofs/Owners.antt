@@ -3,7 +3,7 @@
 use mathlib.Core.Path.{_≡_, sym, ap, _∙_, subst, subst⁻¹}
 use mathlib.Core.List.{List, [], _∷_, reverse}
 use Prim.Native.Nat.{ℕ, zero, _+_, _-_, _*_, _/_, _<_, _∣_}
-use native.Mathlib.Nat.{not-suc-le-zero, le-of-suc-le-suc, le-trans, le-of-dvd, dvd-refl, mod-lt, div-div-eq-div-mul, mul-div-cancel-left}
+use native.Mathlib.Nat.{not-suc-le-zero, le-of-suc-le-suc, le-trans, le-of-dvd, dvd-refl, mul-dvd-mul-left, mod-lt, div-div-eq-div-mul, mul-div-cancel-left}
 use native.Mathlib.Omega.{arith}
 use lib.ListN.{length, getD, length-reverse}
 use Rattle.numbers.specs.Products.{product, without}
@@ -80,6 +80,11 @@ even-owners p cuts l even k s q h m o =
   where
     quotient : product cuts / getD cuts k 0 ≡ product (without k cuts)
     quotient = ap (λ (n : ℕ). n / getD cuts k 0) (product-without k cuts h) ∙ mul-div-cancel-left (product (without k cuts)) (omega arith)
+
+-- that share is exact: bk · p divides the number of tiles
+pub share-exact : (p : ℕ) (cuts : List ℕ) → Even p cuts → (k : ℕ) → k < length cuts → getD cuts k 0 * p ∣ product cuts
+share-exact p cuts even k h =
+    subst⁻¹ (λ (n : ℕ). getD cuts k 0 * p ∣ n) (product-without k cuts h) (mul-dvd-mul-left p (getD cuts k 0) (even k h))
 
 -- so all processors own the same number
 pub owners-balanced : (p : ℕ) (cuts : List ℕ) → zero < p → Even p cuts → Balanced p cuts (ownerOf p cuts)

@@ -12,7 +12,7 @@ use Rattle.numbers.specs.Products.{product}
 use Rattle.numbers.specs.Sums.{same}
 use Rattle.multipartition.specs.Answers.{Answer, answered, refused}
 use Rattle.multipartition.specs.Cuts.{Fits, costOf, cheapest}
-use Rattle.multipartition.specs.Jobs.{Passed, planWith, planAnswer}
+use Rattle.multipartition.specs.Jobs.{PlanFor, Passed, planWith, planAnswer}
 use Rattle.multipartition.specs.Matrix.{matrixOf}
 use Rattle.multipartition.specs.Moduli.{moduliOf}
 use Rattle.multipartition.specs.Neighbours.{neighbourAt}
@@ -25,10 +25,10 @@ use Rattle.multipartition.proofs.Cheapest.{cheapest-fits, cheapest-even}
 use Rattle.multipartition.proofs.Faces.{faces-differ}
 use Rattle.multipartition.proofs.Fitting.{fits-length}
 use Rattle.multipartition.proofs.GridSums.{total, total-ext, held-total}
-use Rattle.multipartition.proofs.Jobs.{PlanFor, plan-answered, plan-in-shape, plan-of-passed}
+use Rattle.multipartition.proofs.Jobs.{plan-answered, plan-in-shape, plan-of-passed}
 use Rattle.multipartition.proofs.Minimal.{cheapest-minimal}
 use Rattle.multipartition.proofs.Neighbours.{neighbour-owns}
-use Rattle.multipartition.proofs.Owners.{owner-below, even-owners}
+use Rattle.multipartition.proofs.Owners.{owner-below, even-owners, share-exact}
 use Rattle.multipartition.proofs.Plans.{between-true-iff, in-shape-moduli-positive}
 use Rattle.multipartition.proofs.Rivals.{balanced-iff-cheapest, cheapest-no-dearer}
 use Rattle.multipartition.proofs.Tiles.{test-of-inside, one-step-on-inside}
@@ -113,14 +113,28 @@ module _ (p d : ℕ) (extents weights : List ℕ) (plan : Plan) (e : planAnswer 
       rw (shaped, between-true-iff 1 (plan .d) k .1 (low, high), lt-ltb (ownerIn plan x) (layoutOf plan .p) q-below)
       (ap answered (neighbour-at (k - 1) up x y (omega (arith, d-is)) w step))
 
-  ours : Ours p extents weights plan
+  one-owner-is : (k : ℕ) (up : Bool) (x y x′ y′ : List ℕ) → 1 ≤ k → k ≤ plan .d → Inside (cutsOf plan) x → Inside (cutsOf plan) x′
+      → oneStepOn (cutsOf plan) (k - 1) up x ≡ some y → oneStepOn (cutsOf plan) (k - 1) up x′ ≡ some y′ → ownerIn plan x ≡ ownerIn plan x′
+      → ownerIn plan y ≡ ownerIn plan y′
+  one-owner-is k up x y x′ y′ low high w w′ step step′ same-owner =
+      let named = neighbour-is k up x y low high w step in
+      let named′ = neighbour-is k up x′ y′ low high w′ step′ in
+      cc
+
+  ours : Ours p d extents weights plan
+  unfolding layoutOf
   ours = record {
+    holds-p = p-is;
+    holds-d = ap (λ (l : Layout). l .d) (made .plan-is) ∙ made .passed .extents-many;
+    holds-extents = ap (λ (l : Layout). l .extents) (made .plan-is);
+    holds-weights = ap (λ (l : Layout). l .weights) (made .plan-is);
     in-shape = shaped;
     fits = cheapest-fits p extents weights (cutsOf plan) (made .cuts-are);
     owner-answered = λ x w. owner-answers x w ∙ ap answered (sym (owner-at x w));
     owner-below = λ x w. subst⁻¹ (λ (n : ℕ). n < p) (owner-of x w) (owner-below p (cutsOf plan) x some-processor);
     balanced = balanced-is;
     shares = shares-are;
+    share-exact = share-exact p (cutsOf plan) (cheapest-even p extents weights (cutsOf plan) (made .cuts-are));
     cost-summed = cost-is;
     cheapest-of-all = λ rival balanced.
         subst⁻¹ (λ (n : ℕ). n ≤ costOf weights (rival .cuts)) cost-is (cheapest-no-dearer p extents some-processor weights (cutsOf plan) (made .cuts-are) rival balanced);
@@ -128,16 +142,17 @@ module _ (p d : ℕ) (extents weights : List ℕ) (plan : Plan) (e : planAnswer 
         faces-differ p (cutsOf plan) some-processor (cheapest-minimal p extents weights (cutsOf plan) (made .cuts-are)) x y w v face
         (sym (owner-of x w) ∙ same-owner ∙ owner-of y v);
     one-neighbour = neighbour-is;
+    one-owner = one-owner-is;
   }
 
 -- DEMAND 3, for all jobs in the stated ranges and all rivals.
-pub demand-3 : (p d : ℕ) (extents weights : List ℕ) → Passed p d extents weights → Demand3 p extents weights (plannedOf (planAnswer p d extents weights))
+pub demand-3 : (p d : ℕ) (extents weights : List ℕ) → Passed p d extents weights → Demand3 p d extents weights (plannedOf (planAnswer p d extents weights))
 unfolding plannedOf planWith
 demand-3 p d extents weights job = go (cheapest p extents weights) refl
   where
-    go : (chosen : Option (List ℕ)) → cheapest p extents weights ≡ chosen → Demand3 p extents weights (plannedOf (planAnswer p d extents weights))
+    go : (chosen : Option (List ℕ)) → cheapest p extents weights ≡ chosen → Demand3 p d extents weights (plannedOf (planAnswer p d extents weights))
     go none e =
-        subst⁻¹ (λ (a : Answer Layout). Demand3 p extents weights (plannedOf a))
+        subst⁻¹ (λ (a : Answer Layout). Demand3 p d extents weights (plannedOf a))
         (plan-of-passed p d extents weights job ∙ ap (planWith p extents weights) e)
         (record {
           accepts = (
@@ -154,7 +169,7 @@ demand-3 p d extents weights job = go (cheapest p extents weights) refl
         let back : layoutOf (planOf (layoutWith p extents weights cuts)) ≡ layoutWith p extents weights cuts =
         layout-of-plan (layoutWith p extents weights cuts)
         (layout-with-sized p extents weights cuts (job .range .d-high) (job .weights-many ∙ sym (job .extents-many)) many) in
-        subst⁻¹ (λ (a : Answer Layout). Demand3 p extents weights (plannedOf a)) answers
+        subst⁻¹ (λ (a : Answer Layout). Demand3 p d extents weights (plannedOf a)) answers
         (record {
           accepts = ((λ z. balanced-iff-cheapest p extents (job .range .p-low) weights .1 (cuts, e)), λ rival. refl);
           refuses = inl refl;

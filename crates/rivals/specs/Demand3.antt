@@ -5,7 +5,7 @@ use mathlib.Core.List.{List}
 use mathlib.Core.Logic.{_⊎_, _↔_, _≢_}
 use mathlib.Core.Option.{Option, some}
 use mathlib.Core.Path.{_≡_}
-use Prim.Native.Nat.{ℕ, _-_, _*_, _/_, _≤_, _<_}
+use Prim.Native.Nat.{ℕ, _-_, _*_, _/_, _≤_, _<_, _∣_}
 use lib.ListN.{length, getD}
 use Rattle.numbers.specs.Products.{product}
 use Rattle.multipartition.specs.Answers.{Answer, answered, refused}
@@ -32,7 +32,12 @@ unfoldable pub ownerIn : Plan → List ℕ → ℕ
 ownerIn plan position = processorIn (ownerAnswer (layoutOf plan) position)
 
 -- What holds of a plan that the planner answers.
-pub record Ours (p : ℕ) (extents weights : List ℕ) (plan : Plan) : Type 0 where
+pub record Ours (p d : ℕ) (extents weights : List ℕ) (plan : Plan) : Type 0 where
+  -- it is the job's: "A plan holds d, p, extents, weights"
+  pub holds-p : plan .p ≡ p
+  pub holds-d : plan .d ≡ d
+  pub holds-extents : layoutOf plan .extents ≡ extents
+  pub holds-weights : layoutOf plan .weights ≡ weights
   -- no question about it is refused with 6
   pub in-shape : inShape (layoutOf plan) ≡ true
   pub fits : Fits extents (cutsOf plan)
@@ -43,6 +48,8 @@ pub record Ours (p : ℕ) (extents weights : List ℕ) (plan : Plan) : Type 0 wh
   pub balanced : Balanced p (cutsOf plan) (ownerIn plan)
   pub shares : (k s q : ℕ) → k < length (cutsOf plan) → s < getD (cutsOf plan) k 0 → q < p
       → held (cutsOf plan) (ownerIn plan) k s q ≡ product (cutsOf plan) / (getD (cutsOf plan) k 0 * p)
+  -- that share is exact, not rounded
+  pub share-exact : (k : ℕ) → k < length (cutsOf plan) → getD (cutsOf plan) k 0 * p ∣ product (cutsOf plan)
   -- "its cost is the one in the plan, summed from the plan's cuts", and no balanced rival costs less
   pub cost-summed : plan .cost ≡ costOf weights (cutsOf plan)
   pub cheapest-of-all : (rival : Rival p extents) → Balanced p (rival .cuts) (rival .owner) → plan .cost ≤ costOf weights (rival .cuts)
@@ -52,12 +59,16 @@ pub record Ours (p : ℕ) (extents weights : List ℕ) (plan : Plan) : Type 0 wh
   -- q, k and that direction": dimensions are counted from 1
   pub one-neighbour : (k : ℕ) (up : Bool) (x y : List ℕ) → 1 ≤ k → k ≤ plan .d → Inside (cutsOf plan) x → oneStepOn (cutsOf plan) (k - 1) up x ≡ some y
       → neighbourAnswer (layoutOf plan) (ownerIn plan x) k up ≡ answered (some (ownerIn plan y))
+  -- all tiles one step in one direction from one processor's tiles have one owner
+  pub one-owner : (k : ℕ) (up : Bool) (x y x′ y′ : List ℕ) → 1 ≤ k → k ≤ plan .d → Inside (cutsOf plan) x → Inside (cutsOf plan) x′
+      → oneStepOn (cutsOf plan) (k - 1) up x ≡ some y → oneStepOn (cutsOf plan) (k - 1) up x′ ≡ some y′ → ownerIn plan x ≡ ownerIn plan x′
+      → ownerIn plan y ≡ ownerIn plan y′
 
 -- Demand 3 for a job that planner::plan_job answers with `planned`.
-pub record Demand3 (p : ℕ) (extents weights : List ℕ) (planned : Planned) : Type 0 where
+pub record Demand3 (p d : ℕ) (extents weights : List ℕ) (planned : Planned) : Type 0 where
   -- "ours accepts exactly when some rival gives every processor equally many tiles in every slab"
   pub accepts : (planned .number ≡ 0) ↔ ((rival : Rival p extents) × Balanced p (rival .cuts) (rival .owner))
   -- and else refuses with 5
   pub refuses : (planned .number ≡ 0) ⊎ (planned .number ≡ 5)
   -- "ours then does too, and costs no more"; faces and neighbours
-  pub ours : planned .number ≡ 0 → Ours p extents weights (planned .plan)
+  pub ours : planned .number ≡ 0 → Ours p d extents weights (planned .plan)
