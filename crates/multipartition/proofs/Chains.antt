@@ -1,6 +1,6 @@
 -- The chain lists: from a processor's place in the first list on, the second list leads through that processor's tiles, each once, in rising
 -- order, and then to zero. Every tile is on its owner's chain and on no other.
-use mathlib.Core.Path.{_≡_, refl, sym, ap, _∙_}
+use mathlib.Core.Path.{_≡_, refl, sym, ap, ap₂, _∙_}
 use mathlib.Core.Bool.{Bool, true, false, cond}
 use mathlib.Core.List.{List, [], _∷_, List·Memᴰ, List·Memᴰ·head, List·Memᴰ·tail, List·Memᴰ·cases-cons, List·Memᴰ·not-nil}
 use mathlib.Core.Logic.{_↔_, ⊎-elim}
@@ -118,7 +118,9 @@ module _ (own : ℕ → ℕ) (q : ℕ) where
           (cond t (from ∷ tilesOwned (suc from) count) (tilesOwned (suc from) count))
       step true mine rest =
           let left : n - from ≡ count = omega arith in
-          goes-on from (tilesOwned (suc from) count) pos (rw (nexts-hold n from pos (omega arith), eqb-true (own from) q mine, left) rest)
+          let next : nextHigher own n from ≡ lowest own q (suc from) count
+          = ap₂ (λ (r c : ℕ). lowest own r (suc from) c) (eqb-true (own from) q mine) left in
+          goes-on from (tilesOwned (suc from) count) pos (rw (nexts-hold n from pos (omega arith), next) rest)
       step false other rest = rest
 
   -- from q's place in the first list on, the second leads through q's tiles and ends

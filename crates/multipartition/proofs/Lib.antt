@@ -1,4 +1,4 @@
-pub mod Grids
+pub mod StarredGrids
 pub mod WholeNumbers
 pub mod MixedRadix
 pub mod Tests

@@ -14,4 +14,4 @@ pub mod Chains
 pub mod Plans
 pub mod Jobs
 pub mod Questions
-pub mod Grids
+pub mod StarredGrids

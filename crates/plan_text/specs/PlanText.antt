@@ -10,7 +10,7 @@ use Rattle.multipartition.specs.Lists.{listOf}
 use Rattle.multipartition.specs.Answers.{Answer, answered, refused, checked}
 use Rattle.multipartition.specs.Plans.{Layout}
 use Rattle.multipartition.specs.Questions.{shapeCheck}
-use Rattle.multipartition.specs.Grids.{neighboursUp}
+use Rattle.multipartition.specs.StarredGrids.{neighboursUp}
 
 -- f 0, f 1 and so on, one after the other: n texts
 unfoldable pub joined : ℕ → (ℕ → List ℕ) → List ℕ

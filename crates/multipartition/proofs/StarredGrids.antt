@@ -13,7 +13,7 @@ use Rattle.multipartition.specs.Neighbours.{columnOf, turn, turned, next
 use Rattle.multipartition.specs.Tiles.{positionOf}
 use Rattle.multipartition.specs.Chains.{lowest, headsOf, nextsOf}
 use Rattle.multipartition.specs.Jobs.{firstOutside, planWith, planAnswer}
-use Rattle.multipartition.specs.Grids.{Grid, figureOf, computed, starred}
+use Rattle.multipartition.specs.StarredGrids.{Grid, figureOf, computed, starred}
 
 -- every figure of every starred grid
 pub starred-grids : map computed starred ≡ map (λ (grid : Grid). grid .answer) starred
