@@ -6,7 +6,9 @@
 //! the last dimension are consecutive numbers: [`by_counting`] counts the owner down from tile to
 //! tile, and for [`by_runs`] a row of tiles is a few runs of heads, each copied and then counted out.
 
-use crate::plan_list::{in_shape, of_length, tiles, PlanList, CUTS, D, MATRIX, MODULI, P};
+use crate::plan_list::{
+    in_shape, of_length, tiles, PlanList, CUTS, DIMENSIONS, MATRIX, MODULI, PROCESSORS, ROW_LENGTH,
+};
 
 /// One downward neighbour for each tile.
 pub fn by_neighbours(plan: &[u32], heads: &mut [u32], nexts: &mut [u32]) -> u32 {
@@ -49,7 +51,7 @@ pub fn by_runs(plan: &[u32], heads: &mut [u32], nexts: &mut [u32]) -> u32 {
 /// Refusals 6 and 9.
 fn check<'a>(plan: &'a [u32], heads: &[u32], nexts: &[u32]) -> Result<&'a PlanList, u32> {
     let plan = of_length(plan).filter(|plan| in_shape(plan)).ok_or(6u32)?;
-    if heads.len() == plan[P] as usize && nexts.len() == tiles(plan) as usize {
+    if heads.len() == plan[PROCESSORS] as usize && nexts.len() == tiles(plan) as usize {
         Ok(plan)
     } else {
         Err(9)
@@ -58,8 +60,8 @@ fn check<'a>(plan: &'a [u32], heads: &[u32], nexts: &[u32]) -> Result<&'a PlanLi
 
 /// Does one step along the last dimension add one to the last coordinate and to no other?
 fn consecutive(plan: &PlanList) -> bool {
-    let last = plan[D] as usize - 1;
-    let column = |i: usize| plan[MATRIX + 5 * i + last];
+    let last = plan[DIMENSIONS] as usize - 1;
+    let column = |i: usize| plan[MATRIX + ROW_LENGTH * i + last];
     (0..last).all(|i| column(i) == 0) && column(last) == 1 % plan[MODULI + last]
 }
 
@@ -71,7 +73,7 @@ trait Rows {
 
 /// Goes through the rows downward, keeping the coordinates of each row's last tile.
 fn walk(plan: &PlanList, tiles: usize, rows: &mut impl Rows) {
-    let d = plan[D] as usize;
+    let d = plan[DIMENSIONS] as usize;
     let length = plan[CUTS + d - 1] as usize;
     let mut position = [0; 5];
     for k in 0..d {
@@ -98,9 +100,9 @@ fn walk(plan: &PlanList, tiles: usize, rows: &mut impl Rows) {
 
 fn coordinates_at(plan: &PlanList, position: &[u32; 5]) -> [u32; 5] {
     let mut coordinates = [0; 5];
-    let d = plan[D] as usize;
+    let d = plan[DIMENSIONS] as usize;
     for i in 0..d {
-        let row = &plan[MATRIX + 5 * i..][..5];
+        let row = &plan[MATRIX + ROW_LENGTH * i..][..ROW_LENGTH];
         let mut sum = 0;
         for k in 0..d {
             sum += row[k] * position[k];
@@ -111,7 +113,7 @@ fn coordinates_at(plan: &PlanList, position: &[u32; 5]) -> [u32; 5] {
 }
 
 fn number_of(plan: &PlanList, coordinates: &[u32; 5]) -> u32 {
-    let d = plan[D] as usize;
+    let d = plan[DIMENSIONS] as usize;
     let mut number = 0;
     for i in 0..d {
         number = number * plan[MODULI + i] + coordinates[i];
@@ -129,14 +131,14 @@ struct Single<'a> {
 
 impl<'a> Single<'a> {
     fn new(plan: &'a PlanList, heads: &'a mut [u32], nexts: &'a mut [u32]) -> Single<'a> {
-        let last = plan[D] as usize - 1;
-        let down = (0..plan[P])
+        let last = plan[DIMENSIONS] as usize - 1;
+        let down = (0..plan[PROCESSORS])
             .map(|q| {
                 let mut left = q;
                 let mut coordinates = [0; 5];
                 for i in (0..=last).rev() {
                     let modulus = plan[MODULI + i];
-                    let step = modulus - plan[MATRIX + 5 * i + last];
+                    let step = modulus - plan[MATRIX + ROW_LENGTH * i + last];
                     coordinates[i] = (left % modulus + step) % modulus;
                     left /= modulus;
                 }
@@ -155,7 +157,7 @@ impl<'a> Single<'a> {
 impl Rows for Single<'_> {
     #[inline]
     fn row(&mut self, before: usize, coordinates: &[u32; 5]) {
-        let length = self.plan[CUTS + self.plan[D] as usize - 1] as usize;
+        let length = self.plan[CUTS + self.plan[DIMENSIONS] as usize - 1] as usize;
         let mut q = number_of(self.plan, coordinates) as usize;
         let mut tile = (before + length) as u32;
         for next in self.nexts[before..before + length].iter_mut().rev() {
@@ -177,7 +179,7 @@ struct Counting<'a> {
 impl Rows for Counting<'_> {
     #[inline]
     fn row(&mut self, before: usize, coordinates: &[u32; 5]) {
-        let last = self.plan[D] as usize - 1;
+        let last = self.plan[DIMENSIONS] as usize - 1;
         let length = self.plan[CUTS + last] as usize;
         let modulus = self.plan[MODULI + last] as usize;
         let mut c = coordinates[last] as usize;
@@ -202,7 +204,7 @@ struct Runs<'a> {
 impl Rows for Runs<'_> {
     #[inline]
     fn row(&mut self, before: usize, coordinates: &[u32; 5]) {
-        let last = self.plan[D] as usize - 1;
+        let last = self.plan[DIMENSIONS] as usize - 1;
         let length = self.plan[CUTS + last] as usize;
         let modulus = self.plan[MODULI + last] as usize;
         let top = number_of(self.plan, coordinates) as usize;

@@ -2,12 +2,12 @@
 
 use link::calls;
 
-use crate::plan_list::LENGTH;
+use crate::plan_list::PLAN_LENGTH;
 use crate::planning::Planned;
 use crate::subject::Subject;
 
 fn plan(p: u32, d: u32, extents: &[u32], weights: &[u32]) -> Planned {
-    let mut list = [0; LENGTH];
+    let mut list = [0; PLAN_LENGTH];
     match calls::plan(p, d, extents, weights, &mut list) {
         0 => Ok(list),
         refused => Err((refused as u32, (refused >> 32) as u32)),

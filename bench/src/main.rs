@@ -213,7 +213,7 @@ fn chains(subject: &Subject, repeats: usize) {
     let mut other_heads = heads.clone();
     let mut other_nexts = nexts.clone();
     for (what, plan) in jobs::largest_grids() {
-        let p = plan[bench::plan_list::P] as usize;
+        let p = plan[bench::plan_list::PROCESSORS] as usize;
         let fill = |side: &Subject, heads: &mut [u32], nexts: &mut [u32]| {
             let refused = black_box(side.chains)(&plan, &mut heads[..p], nexts);
             // Some of the answers; all of them are compared below.

@@ -1,17 +1,9 @@
-//! A plan as a list of 32-bit numbers, in the order of document 01: d, p, extents, weights, cuts,
-//! cost (low half first), moduli, matrix row by row.
+//! What the rivals ask of a plan list: its length, its shape, its tiles. Its places are named in tests/link.
 
-pub const D: usize = 0;
-pub const P: usize = 1;
-pub const EXTENTS: usize = 2;
-pub const WEIGHTS: usize = 7;
-pub const CUTS: usize = 12;
-pub const COST: usize = 17;
-pub const MODULI: usize = 19;
-pub const MATRIX: usize = 24;
-pub const LENGTH: usize = 49;
-
-pub type PlanList = [u32; LENGTH];
+pub use link::plan_list::{
+    list_of, PlanList, COST_HIGH, COST_LOW, CUTS, DIMENSIONS, EXTENTS, MATRIX, MODULI, PLAN_LENGTH,
+    PROCESSORS, ROW_LENGTH, WEIGHTS,
+};
 
 /// The list as an array of the right length, or nothing.
 #[inline]
@@ -19,28 +11,11 @@ pub fn of_length(list: &[u32]) -> Option<&PlanList> {
     list.try_into().ok()
 }
 
-/// The list of a plan.
-pub fn list_of(plan: &oracle::plan::Plan) -> PlanList {
-    let mut list = [0; LENGTH];
-    list[D] = plan.d;
-    list[P] = plan.p;
-    list[EXTENTS..][..5].copy_from_slice(&plan.extents);
-    list[WEIGHTS..][..5].copy_from_slice(&plan.weights);
-    list[CUTS..][..5].copy_from_slice(&plan.cuts);
-    list[COST] = plan.cost as u32;
-    list[COST + 1] = (plan.cost >> 32) as u32;
-    list[MODULI..][..5].copy_from_slice(&plan.moduli);
-    for (i, row) in plan.matrix.iter().enumerate() {
-        list[MATRIX + 5 * i..][..5].copy_from_slice(row);
-    }
-    list
-}
-
 /// Refusal 6: is the plan in shape?
 #[inline]
 pub fn in_shape(plan: &PlanList) -> bool {
-    let d = plan[D] as usize;
-    if !(2..=5).contains(&d) || !(1..=4096).contains(&plan[P]) {
+    let d = plan[DIMENSIONS] as usize;
+    if !(2..=5).contains(&d) || !(1..=4096).contains(&plan[PROCESSORS]) {
         return false;
     }
     let mut fine = true;
@@ -55,20 +30,20 @@ pub fn in_shape(plan: &PlanList) -> bool {
         fine &= cut.wrapping_sub(1) < extent.min(4096);
         // At most 4096 to the fifth while the cuts are fine; a modulus is not above p.
         tiles = tiles.wrapping_mul(u64::from(cut));
-        fine &= modulus.wrapping_sub(1) < plan[P];
+        fine &= modulus.wrapping_sub(1) < plan[PROCESSORS];
         processors = processors.wrapping_mul(u64::from(modulus));
-        let row = &plan[MATRIX + 5 * k..][..5];
+        let row = &plan[MATRIX + ROW_LENGTH * k..][..ROW_LENGTH];
         for &entry in &row[..d] {
             fine &= entry < modulus;
         }
     }
-    fine & (tiles <= 16_777_216) & (processors == u64::from(plan[P]))
+    fine & (tiles <= 16_777_216) & (processors == u64::from(plan[PROCESSORS]))
 }
 
 /// The number of tiles of a plan in shape.
 #[inline]
 pub fn tiles(plan: &PlanList) -> u32 {
-    plan[CUTS..][..plan[D] as usize].iter().product()
+    plan[CUTS..][..plan[DIMENSIONS] as usize].iter().product()
 }
 
 #[cfg(test)]

@@ -81,14 +81,14 @@ fn check(p: u32, d: u32, extents: &[u32], weights: &[u32]) -> Result<Job, (u32, 
 fn finish(job: &Job, chosen: Option<(u64, Cuts)>) -> Planned {
     let (cost, cuts) = chosen.ok_or((5, 0))?;
     let d = job.d;
-    let mut plan = [0; plan_list::LENGTH];
-    plan[plan_list::D] = d as u32;
-    plan[plan_list::P] = job.p;
+    let mut plan = [0; plan_list::PLAN_LENGTH];
+    plan[plan_list::DIMENSIONS] = d as u32;
+    plan[plan_list::PROCESSORS] = job.p;
     plan[plan_list::EXTENTS..][..5].copy_from_slice(&job.extents);
     plan[plan_list::WEIGHTS..][..5].copy_from_slice(&job.weights);
     plan[plan_list::CUTS..][..5].copy_from_slice(&cuts);
-    plan[plan_list::COST] = cost as u32;
-    plan[plan_list::COST + 1] = (cost >> 32) as u32;
+    plan[plan_list::COST_LOW] = cost as u32;
+    plan[plan_list::COST_HIGH] = (cost >> 32) as u32;
     let mut moduli = [0; 5];
     let mut left = job.p;
     for k in (0..d).rev() {
@@ -113,7 +113,7 @@ fn finish(job: &Job, chosen: Option<(u64, Cuts)>) -> Planned {
     for i in 0..d {
         for k in 0..d {
             let entry = rows[i][k].rem_euclid(i64::from(moduli[i]));
-            plan[plan_list::MATRIX + 5 * i + k] = entry as u32;
+            plan[plan_list::MATRIX + plan_list::ROW_LENGTH * i + k] = entry as u32;
         }
     }
     Ok(plan)

@@ -3,7 +3,9 @@
 //!
 //! Each call returns the refusal's number, or 0 with the answer in the lent list.
 
-use crate::plan_list::{in_shape, of_length, CUTS, D, EXTENTS, MATRIX, MODULI, P};
+use crate::plan_list::{
+    in_shape, of_length, CUTS, DIMENSIONS, EXTENTS, MATRIX, MODULI, PROCESSORS, ROW_LENGTH,
+};
 
 /// The owner of a position; the answer is one number.
 pub fn owner(plan: &[u32], position: &[u32], answer: &mut [u32]) -> u32 {
@@ -13,7 +15,7 @@ pub fn owner(plan: &[u32], position: &[u32], answer: &mut [u32]) -> u32 {
     if !in_shape(plan) {
         return 6;
     }
-    let d = plan[D] as usize;
+    let d = plan[DIMENSIONS] as usize;
     if position.len() != d {
         return 8;
     }
@@ -27,7 +29,7 @@ pub fn owner(plan: &[u32], position: &[u32], answer: &mut [u32]) -> u32 {
     };
     let mut number = 0;
     for i in 0..d {
-        let row = &plan[MATRIX + 5 * i..][..5];
+        let row = &plan[MATRIX + ROW_LENGTH * i..][..ROW_LENGTH];
         // Five products of numbers below 4,096.
         let mut sum = 0u32;
         for k in 0..d {
@@ -54,11 +56,11 @@ pub fn neighbour(
     if !in_shape(plan) {
         return 6;
     }
-    let d = plan[D] as usize;
-    if dimension == 0 || dimension > plan[D] {
+    let d = plan[DIMENSIONS] as usize;
+    if dimension == 0 || dimension > plan[DIMENSIONS] {
         return 7;
     }
-    if processor >= plan[P] {
+    if processor >= plan[PROCESSORS] {
         return 8;
     }
     let [found, next] = answer else {
@@ -76,7 +78,7 @@ pub fn neighbour(
         let modulus = plan[MODULI + i];
         let c = left % modulus;
         left /= modulus;
-        let column = plan[MATRIX + 5 * i + k];
+        let column = plan[MATRIX + ROW_LENGTH * i + k];
         let step = if up { column } else { modulus - column };
         let moved = c + step;
         let moved = if moved >= modulus {
@@ -99,7 +101,7 @@ pub fn slab_elements(plan: &[u32], dimension: u32, slab: u32, answer: &mut [u32]
     if !in_shape(plan) {
         return 6;
     }
-    if dimension == 0 || dimension > plan[D] {
+    if dimension == 0 || dimension > plan[DIMENSIONS] {
         return 7;
     }
     let k = dimension as usize - 1;
@@ -123,7 +125,7 @@ pub fn slab_of(plan: &[u32], dimension: u32, element: u32, answer: &mut [u32]) -
     if !in_shape(plan) {
         return 6;
     }
-    if dimension == 0 || dimension > plan[D] {
+    if dimension == 0 || dimension > plan[DIMENSIONS] {
         return 7;
     }
     let k = dimension as usize - 1;

@@ -103,7 +103,7 @@ pub fn plan(lists: &mut Lists, job: &Job, lent: &[u32]) -> u64 {
     let returned = calls::plan(job.p, job.d, extents, weights, lent_list);
     assert_eq!(
         (returned, lent_list.to_vec()),
-        outcome(planned.map(|plan| list_of(&plan)), lent),
+        outcome(planned.map(|plan| list_of(&plan).to_vec()), lent),
         "{job:?}"
     );
     returned

@@ -4,7 +4,10 @@ use oracle::cases;
 use oracle::plan::{plan_job, Plan};
 use oracle::random::Random;
 
-use crate::plan_list::{list_of, plan_of, LENGTH};
+use crate::plan_list::{
+    list_of, plan_of, CUTS, DIMENSIONS, EXTENTS, MATRIX, MODULI, PLAN_LENGTH, PROCESSORS,
+    ROW_LENGTH,
+};
 
 #[derive(Clone, Debug)]
 pub struct Job {
@@ -120,7 +123,7 @@ fn factor(random: &mut Random, most: u64) -> u64 {
 /// in the places past d.
 pub fn made_by_hand(random: &mut Random) -> Plan {
     let d = random.between(2, 5) as usize;
-    let mut list = any_numbers(random, LENGTH);
+    let mut list = any_numbers(random, PLAN_LENGTH);
     let (mut p, mut tiles) = (1, 1);
     for k in 0..d {
         let modulus = factor(random, 4096 / p);
@@ -128,33 +131,43 @@ pub fn made_by_hand(random: &mut Random) -> Plan {
         let extent = cut + factor(random, 1_000_001 - cut) - 1;
         p *= modulus;
         tiles *= cut;
-        (list[2 + k], list[12 + k], list[19 + k]) = (extent as u32, cut as u32, modulus as u32);
+        list[EXTENTS + k] = extent as u32;
+        list[CUTS + k] = cut as u32;
+        list[MODULI + k] = modulus as u32;
         for j in 0..d {
-            list[24 + 5 * k + j] = random.between(0, modulus - 1) as u32;
+            list[MATRIX + k * ROW_LENGTH + j] = random.between(0, modulus - 1) as u32;
         }
     }
-    (list[0], list[1]) = (d as u32, p as u32);
+    list[DIMENSIONS] = d as u32;
+    list[PROCESSORS] = p as u32;
     plan_of(&list).expect("a list of the right length")
 }
 
 /// The list of a plan of the pool, or of one made by hand, as it is or damaged.
 pub fn plan_list(random: &mut Random, pool: &[Plan]) -> Vec<u32> {
     let mut list = if random.once_in(2) {
-        list_of(random.pick(pool))
+        list_of(random.pick(pool)).to_vec()
     } else {
-        list_of(&made_by_hand(random))
+        list_of(&made_by_hand(random)).to_vec()
     };
     match random.between(0, 15) {
         0..=8 => (),
         9..=13 => {
             for _ in 0..random.between(1, 3) {
-                let at = random.between(0, LENGTH as u64 - 1) as usize;
+                let at = random.between(0, PLAN_LENGTH as u64 - 1) as usize;
                 list[at] = another(random, list[at]);
             }
         }
-        14 => list = any_numbers(random, LENGTH),
+        14 => list = any_numbers(random, PLAN_LENGTH),
         _ => {
-            let length = *random.pick(&[0, 1, 24, 47, 48, 50, 98]);
+            let length = *random.pick(&[
+                0,
+                1,
+                MATRIX,
+                PLAN_LENGTH - 1,
+                PLAN_LENGTH + 1,
+                2 * PLAN_LENGTH,
+            ]);
             list.resize(length, 1);
         }
     }
@@ -164,7 +177,7 @@ pub fn plan_list(random: &mut Random, pool: &[Plan]) -> Vec<u32> {
 /// A question about the plan of a list, as if the list were in order.
 pub fn question(random: &mut Random, list: &[u32]) -> Question {
     let place = |at: usize| list.get(at).copied().unwrap_or(3);
-    let d = place(0).min(6);
+    let d = place(DIMENSIONS).min(6);
     let dimension = if random.once_in(12) {
         another(random, d)
     } else {
@@ -174,7 +187,7 @@ pub fn question(random: &mut Random, list: &[u32]) -> Question {
     match random.between(0, 3) {
         0 => {
             let mut position: Vec<u32> = (0..d as usize)
-                .map(|k| mostly_below(random, place(12 + k)))
+                .map(|k| mostly_below(random, place(CUTS + k)))
                 .collect();
             if random.once_in(24) {
                 position.resize(random.between(0, 7) as usize, 0);
@@ -182,17 +195,17 @@ pub fn question(random: &mut Random, list: &[u32]) -> Question {
             Question::Owner { position }
         }
         1 => Question::Neighbour {
-            processor: mostly_below(random, place(1)),
+            processor: mostly_below(random, place(PROCESSORS)),
             dimension,
             up: *random.pick(&[0, 0, 1, 1, 2, u32::MAX]),
         },
         2 => Question::Slab {
             dimension,
-            slab: mostly_below(random, place(12 + k)),
+            slab: mostly_below(random, place(CUTS + k)),
         },
         _ => Question::SlabOf {
             dimension,
-            element: mostly_below(random, place(2 + k)),
+            element: mostly_below(random, place(EXTENTS + k)),
         },
     }
 }

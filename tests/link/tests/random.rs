@@ -5,7 +5,7 @@ use std::collections::BTreeMap;
 
 use link::compared::{ask, chain, plan, Lists};
 use link::guarded::ROOM;
-use link::plan_list::{list_of, plan_of, LENGTH};
+use link::plan_list::{list_of, plan_of, PLAN_LENGTH};
 use link::questions::{any_numbers, job, lent, plan_list, planned, question};
 use oracle::random::Random;
 
@@ -49,7 +49,7 @@ fn jobs() {
     let mut seen = Seen::default();
     for _ in 0..20_000 {
         let job = job(&mut random);
-        let lent = lent(&mut random, LENGTH);
+        let lent = lent(&mut random, PLAN_LENGTH);
         seen.note(plan(&mut lists, &job, &lent));
     }
     seen.check(&[0, 1, 2, 3, 4, 5, 9], 30);
@@ -82,7 +82,7 @@ fn lists_of_every_length() {
     let mut random = Random::new(4);
     let mut lists = Lists::default();
     let good = list_of(&planned(&mut random, 1)[0]);
-    for length in 0..2 * LENGTH {
+    for length in 0..2 * PLAN_LENGTH {
         for _ in 0..200 {
             let list = match random.between(0, 1) {
                 0 => any_numbers(&mut random, length),

@@ -1,11 +1,13 @@
 //! Every refusal through the link, in the order of document 01's table, and what a refusal leaves alone.
 
 use link::calls::{chains, neighbour, owner, plan, slab, slab_of};
-use link::plan_list::LENGTH;
+use link::plan_list::{
+    PlanList, CUTS, DIMENSIONS, EXTENTS, MATRIX, MODULI, PLAN_LENGTH, PROCESSORS, ROW_LENGTH,
+};
 
 /// The plan of 4 processors on a grid of 8 by 8 by 8: cuts 2 2 2.
-fn planned() -> [u32; LENGTH] {
-    let mut list = [7; LENGTH];
+fn planned() -> PlanList {
+    let mut list = [7; PLAN_LENGTH];
     assert_eq!(plan(4, 3, &[8; 3], &[1; 3], &mut list), 0);
     list
 }
@@ -19,30 +21,30 @@ fn refused<const N: usize>(expected: u64, call: impl FnOnce(&mut [u32]) -> u64) 
 
 #[test]
 fn jobs() {
-    refused::<49>(1, |list| plan(0, 6, &[], &[], list));
-    refused::<49>(1, |list| plan(0, 1, &[], &[], list));
-    refused::<49>(2, |list| plan(0, 2, &[], &[], list));
-    refused::<49>(2, |list| plan(4097, 5, &[1], &[], list));
-    refused::<49>(3, |list| plan(1, 2, &[0; 3], &[0; 2], list));
-    refused::<49>(3, |list| plan(1, 2, &[0; 2], &[0; 1], list));
-    refused::<49>(4 | 1 << 32, |list| plan(1, 2, &[0, 0], &[0; 2], list));
-    refused::<49>(4 | 2 << 32, |list| {
+    refused::<PLAN_LENGTH>(1, |list| plan(0, 6, &[], &[], list));
+    refused::<PLAN_LENGTH>(1, |list| plan(0, 1, &[], &[], list));
+    refused::<PLAN_LENGTH>(2, |list| plan(0, 2, &[], &[], list));
+    refused::<PLAN_LENGTH>(2, |list| plan(4097, 5, &[1], &[], list));
+    refused::<PLAN_LENGTH>(3, |list| plan(1, 2, &[0; 3], &[0; 2], list));
+    refused::<PLAN_LENGTH>(3, |list| plan(1, 2, &[0; 2], &[0; 1], list));
+    refused::<PLAN_LENGTH>(4 | 1 << 32, |list| plan(1, 2, &[0, 0], &[0; 2], list));
+    refused::<PLAN_LENGTH>(4 | 2 << 32, |list| {
         plan(1, 2, &[1, 1_000_001], &[0; 2], list)
     });
-    refused::<49>(4 | 5 << 32, |list| {
+    refused::<PLAN_LENGTH>(4 | 5 << 32, |list| {
         plan(1, 5, &[1, 1, 1, 1, 0], &[0; 5], list)
     });
-    refused::<49>(5, |list| plan(2, 2, &[1, 9], &[1; 2], list));
-    refused::<48>(5, |list| plan(4, 3, &[1, 3, 9], &[1; 3], list));
-    refused::<48>(9, |list| plan(4, 3, &[8; 3], &[1; 3], list));
-    refused::<50>(9, |list| plan(4, 3, &[8; 3], &[1; 3], list));
+    refused::<PLAN_LENGTH>(5, |list| plan(2, 2, &[1, 9], &[1; 2], list));
+    refused::<{ PLAN_LENGTH - 1 }>(5, |list| plan(4, 3, &[1, 3, 9], &[1; 3], list));
+    refused::<{ PLAN_LENGTH - 1 }>(9, |list| plan(4, 3, &[8; 3], &[1; 3], list));
+    refused::<{ PLAN_LENGTH + 1 }>(9, |list| plan(4, 3, &[8; 3], &[1; 3], list));
     refused::<0>(9, |list| plan(4, 3, &[8; 3], &[1; 3], list));
 }
 
 #[test]
 fn plan_lists_of_another_length() {
     let list = [planned().to_vec(), vec![0]].concat();
-    for plan in [&list[..0], &list[..48], &list[..50]] {
+    for plan in [&list[..0], &list[..PLAN_LENGTH - 1], &list[..]] {
         refused::<1>(6, |answer| owner(plan, &[0; 3], answer));
         refused::<2>(6, |answer| neighbour(plan, 0, 1, 1, answer));
         refused::<2>(6, |answer| slab(plan, 1, 0, answer));
@@ -56,22 +58,22 @@ fn plan_lists_of_another_length() {
 fn plans_out_of_shape() {
     // d, p, an extent, a cut below and above its range, a modulus, the moduli's product, an entry
     let damage = [
-        (0, 1),
-        (0, 6),
-        (1, 0),
-        (1, 4097),
-        (1, 5),
-        (2, 0),
-        (2, 1),
-        (4, 1_000_001),
-        (12, 0),
-        (13, 9),
-        (14, 4097),
-        (19, 0),
-        (20, 4),
-        (24, 1),
-        (31, 2),
-        (36, 2),
+        (DIMENSIONS, 1),
+        (DIMENSIONS, 6),
+        (PROCESSORS, 0),
+        (PROCESSORS, 4097),
+        (PROCESSORS, 5),
+        (EXTENTS, 0),
+        (EXTENTS, 1),
+        (EXTENTS + 2, 1_000_001),
+        (CUTS, 0),
+        (CUTS + 1, 9),
+        (CUTS + 2, 4097),
+        (MODULI, 0),
+        (MODULI + 1, 4),
+        (MATRIX, 1),
+        (MATRIX + ROW_LENGTH + 2, 2),
+        (MATRIX + 2 * ROW_LENGTH + 2, 2),
     ];
     for (place, number) in damage {
         let mut list = planned();
@@ -136,7 +138,7 @@ fn answers_of_the_first_example() {
 
 #[test]
 fn an_uncut_dimension_has_no_neighbour() {
-    let mut list = [0; LENGTH];
+    let mut list = [0; PLAN_LENGTH];
     assert_eq!(plan(5, 3, &[4, 9, 9], &[1; 3], &mut list), 0);
     let mut two = [77; 2];
     assert_eq!((neighbour(&list, 4, 1, 0, &mut two), two), (0, [0, 0]));
