@@ -5,17 +5,21 @@
  * Lists are of 32-bit numbers. Each is passed as a pointer and its length, which counts numbers, not bytes. Dimensions are numbered
  * from 1; processors, slabs and elements from 0; tiles from 1.
  *
- * What a caller may rely on, proved for all numbers and for lists of all lengths and contents:
+ * Proved, for all numbers and for lists of all lengths and contents:
  * - Every call returns. It returns 0 and has written every place of its answer lists, or it returns a refusal and has written nothing.
  *   The refusal is the first of the table below that applies.
- * - A call reads its lists and nothing else, writes its answer lists and nothing else, and keeps nothing: the same lists get the same answer,
- *   and calls from several threads need no lock.
+ * - What a call returns and writes is settled by its numbers and its lists alone, and it writes no other list.
  * - A plan list is any list of 49 numbers. One that multipartition_plan wrote is in shape, and its tiles are even: every processor owns
  *   equally many tiles in every slab of every dimension. One that is made or changed by hand is answered by the same formulas where it is
  *   in shape, and refused with 6 where it is not.
  *
+ * What follows from it: a call reads and writes its lists and its own stack and nothing else. The archive has no variables, asks for no
+ * memory and calls nothing but memcpy and memset. So calls from several threads need no lock, as long as no list is written in one thread
+ * while another thread's call uses it.
+ *
  * What a caller must see to, since C does not check it: every pointer is not null, also for a list of length 0, points to as many numbers as
- * its length says, and no answer list shares a place with another list of the call.
+ * its length says, no answer list shares a place with another list of the call, and the thread has the stack that the call needs, which is
+ * measured and not proved (MULTIPARTITION_PLAN_STACK and the like below).
  */
 #ifndef MULTIPARTITION_H
 #define MULTIPARTITION_H
@@ -57,7 +61,23 @@ enum {
     MULTIPARTITION_SLAB_LENGTH = 2,
 
     MULTIPARTITION_SLAB_OF = 0, /* the slab */
-    MULTIPARTITION_SLAB_OF_LENGTH = 1
+    MULTIPARTITION_SLAB_OF_LENGTH = 1,
+
+    MULTIPARTITION_TILE = 0, /* the tile's number */
+    MULTIPARTITION_TILE_LENGTH = 1,
+
+    MULTIPARTITION_STEP_INSIDE = 0,  /* 1, or 0 if the step leaves the grid */
+    MULTIPARTITION_STEP_POSITION = 1 /* from here on the position one step on, or d times 0 if the step leaves the grid */
+};
+
+/* A position is a list of d coordinates, that of dimension 1 first; each is a slab of its dimension. The answer to a step is longer by one. */
+#define MULTIPARTITION_STEP_LENGTH(dimensions) (MULTIPARTITION_STEP_POSITION + (dimensions))
+
+/* The bytes of stack that must be left where a call is made, on x86-64: measured, with a quarter or more to spare. */
+enum {
+    MULTIPARTITION_PLAN_STACK = 65536,
+    MULTIPARTITION_CHAINS_STACK = 8192,
+    MULTIPARTITION_QUESTION_STACK = 4096 /* all other calls */
 };
 
 /* What a call returns: 0, or a refusal's number in the lower 32 bits and its place in the upper 32. */
@@ -70,7 +90,7 @@ enum multipartition_number {
     MULTIPARTITION_NO_CUTS = 5,        /* no cuts that fit are even */
     MULTIPARTITION_BAD_PLAN = 6,       /* the plan list has another length than 49, or its plan is out of shape */
     MULTIPARTITION_BAD_DIMENSION = 7,  /* the dimension is not 1 to d */
-    MULTIPARTITION_OUT_OF_RANGE = 8,   /* a slab, element, coordinate or processor out of range, or not d coordinates */
+    MULTIPARTITION_OUT_OF_RANGE = 8,   /* a slab, element, tile, coordinate or processor out of range, or not d coordinates */
     MULTIPARTITION_BAD_ANSWER_LENGTH = 9
 };
 
@@ -92,7 +112,7 @@ uint64_t multipartition_plan(uint32_t processors, uint32_t dimensions,
                              const uint32_t *weights, size_t weights_length,
                              uint32_t *plan, size_t plan_length);
 
-/* Who owns the tile at a position: d coordinates, each below its cut. Refused with 6, 8, 9. */
+/* Who owns the tile at a position. Refused with 6, 8, 9. */
 uint64_t multipartition_owner(const uint32_t *plan, size_t plan_length,
                               const uint32_t *position, size_t position_length,
                               uint32_t *answer, size_t answer_length);
@@ -112,6 +132,23 @@ uint64_t multipartition_slab(const uint32_t *plan, size_t plan_length,
 uint64_t multipartition_slab_of(const uint32_t *plan, size_t plan_length,
                                 uint32_t dimension, uint32_t element,
                                 uint32_t *answer, size_t answer_length);
+
+/* Which number the tile at a position has; the last dimension runs fastest. Refused with 6, 8, 9. */
+uint64_t multipartition_tile_number(const uint32_t *plan, size_t plan_length,
+                                    const uint32_t *position, size_t position_length,
+                                    uint32_t *answer, size_t answer_length);
+
+/* Which position a tile has. The answer list is a position. Refused with 6, 8, 9. */
+uint64_t multipartition_tile_position(const uint32_t *plan, size_t plan_length,
+                                      uint32_t tile,
+                                      uint32_t *answer, size_t answer_length);
+
+/* Which position lies one step along a dimension from a position: upward, or downward if `up` is 0. The answer list has
+ * MULTIPARTITION_STEP_LENGTH(d) places. Refused with 6, 7, 8, 9. */
+uint64_t multipartition_step(const uint32_t *plan, size_t plan_length,
+                             const uint32_t *position, size_t position_length,
+                             uint32_t dimension, uint32_t up,
+                             uint32_t *answer, size_t answer_length);
 
 /* Which tiles each processor owns, as chains. `heads`, of p places, gets each processor's lowest tile, 0 if it has none; `nexts`, of one
  * place a tile, gets at place t - 1 the next higher tile of the owner of tile t, 0 at the chain's end. Refused with 6, 9. */
