@@ -86,22 +86,26 @@ static void jobs(void)
 
 /* A question: the numbers, the length of the position, and that of the answer lists. */
 struct question {
-    uint32_t processor, dimension, slab, element, coordinate;
+    uint32_t processor, dimension, slab, element, tile, coordinate;
     size_t position, answer;
 };
 
-/* Each question about a plan list is refused with this number. */
-static void questions(const char *what, const uint32_t *plan, size_t length, struct question q, enum multipartition_number owner,
-                      enum multipartition_number others)
+/* The questions about a plan list are refused with these numbers: those without a dimension, and those with one. */
+static void questions(const char *what, const uint32_t *plan, size_t length, struct question q, enum multipartition_number without,
+                      enum multipartition_number with)
 {
     uint32_t *list = copied(plan, MULTIPARTITION_PLAN_LENGTH, length);
     uint32_t *position = filled(q.position, q.coordinate);
     uint32_t *answer = filled(q.answer, KEPT);
-    expect(what, multipartition_owner(list, length, position, q.position, answer, q.answer), owner, 0);
-    expect(what, multipartition_neighbour(list, length, q.processor, q.dimension, 1, answer, q.answer), others, 0);
-    expect(what, multipartition_neighbour(list, length, q.processor, q.dimension, 0, answer, q.answer), others, 0);
-    expect(what, multipartition_slab(list, length, q.dimension, q.slab, answer, q.answer), others, 0);
-    expect(what, multipartition_slab_of(list, length, q.dimension, q.element, answer, q.answer), others, 0);
+    expect(what, multipartition_owner(list, length, position, q.position, answer, q.answer), without, 0);
+    expect(what, multipartition_tile_number(list, length, position, q.position, answer, q.answer), without, 0);
+    expect(what, multipartition_tile_position(list, length, q.tile, answer, q.answer), without, 0);
+    expect(what, multipartition_slab(list, length, q.dimension, q.slab, answer, q.answer), with, 0);
+    expect(what, multipartition_slab_of(list, length, q.dimension, q.element, answer, q.answer), with, 0);
+    for (uint32_t up = 0; up < 2; up++) {
+        expect(what, multipartition_neighbour(list, length, q.processor, q.dimension, up, answer, q.answer), with, 0);
+        expect(what, multipartition_step(list, length, position, q.position, q.dimension, up, answer, q.answer), with, 0);
+    }
     expect_kept(what, answer, q.answer);
     free(position);
     free(list);
@@ -122,7 +126,7 @@ static void chain_lists(const char *what, const uint32_t *plan, size_t length, s
 /* One number of a plan in shape is changed. */
 static void out_of_shape(const uint32_t *plan, size_t place, uint32_t number)
 {
-    const struct question good = {3, 3, 1, 7, 1, 3, 2};
+    const struct question good = {3, 3, 1, 7, 8, 1, 3, 2};
     uint32_t *changed = copied(plan, MULTIPARTITION_PLAN_LENGTH, MULTIPARTITION_PLAN_LENGTH);
     changed[place] = number;
     questions("out of shape", changed, MULTIPARTITION_PLAN_LENGTH, good, MULTIPARTITION_BAD_PLAN, MULTIPARTITION_BAD_PLAN);
@@ -139,7 +143,7 @@ int main(void)
     jobs();
     expect("a job", multipartition_plan(4, 3, extents, 3, weights, 3, plan, n), MULTIPARTITION_ANSWERED, 0);
 
-    const struct question good = {3, 3, 1, 7, 1, 3, 2};
+    const struct question good = {3, 3, 1, 7, 8, 1, 3, 2};
     questions("plan list empty", plan, 0, good, MULTIPARTITION_BAD_PLAN, MULTIPARTITION_BAD_PLAN);
     questions("plan list too short", plan, n - 1, good, MULTIPARTITION_BAD_PLAN, MULTIPARTITION_BAD_PLAN);
     questions("plan list too long", plan, n + 1, good, MULTIPARTITION_BAD_PLAN, MULTIPARTITION_BAD_PLAN);
@@ -151,12 +155,12 @@ int main(void)
     out_of_shape(plan, MULTIPARTITION_MODULI + 2, 4);
     out_of_shape(plan, MULTIPARTITION_MATRIX + 2 * MULTIPARTITION_ROW_LENGTH + 2, 2);
 
-    const struct question no_dimension = {4, 0, 2, 8, 2, 3, 0};
-    const struct question high_dimension = {4, 4, 2, 8, 1, 2, 0};
-    const struct question out_of_range = {4, 1, 2, 8, UINT32_MAX, 3, 0};
-    const struct question long_position = {UINT32_MAX, 3, UINT32_MAX, UINT32_MAX, 0, 4, 0};
-    const struct question no_answer_list = {3, 3, 1, 7, 1, 3, 0};
-    const struct question long_answer_list = {3, 3, 1, 7, 1, 3, 3};
+    const struct question no_dimension = {4, 0, 2, 8, 0, 2, 3, 0};
+    const struct question high_dimension = {4, 4, 2, 8, 9, 1, 2, 0};
+    const struct question out_of_range = {4, 1, 2, 8, 9, UINT32_MAX, 3, 0};
+    const struct question long_position = {UINT32_MAX, 3, UINT32_MAX, UINT32_MAX, UINT32_MAX, 0, 4, 0};
+    const struct question no_answer_list = {3, 3, 1, 7, 8, 1, 3, 0};
+    const struct question long_answer_list = {3, 3, 1, 7, 8, 1, 3, 5};
     questions("dimension 0", plan, n, no_dimension, MULTIPARTITION_OUT_OF_RANGE, MULTIPARTITION_BAD_DIMENSION);
     questions("dimension 4", plan, n, high_dimension, MULTIPARTITION_OUT_OF_RANGE, MULTIPARTITION_BAD_DIMENSION);
     questions("out of range", plan, n, out_of_range, MULTIPARTITION_OUT_OF_RANGE, MULTIPARTITION_OUT_OF_RANGE);

@@ -1,0 +1,155 @@
+/* Every named place of every list, against figures. No two figures agree but where the formulas make them: matrix entries above the diagonal are
+ * 0 and those on it 1, and the last modulus is the last cut. Lists stand at the beginning of longer ones, whose other numbers agree with none. */
+#include <inttypes.h>
+#include <stdio.h>
+#include <stdlib.h>
+
+#include "multipartition.h"
+
+enum { D = 5, ROOM = 99, SPARE = 4000000 };
+
+#define EXPECT(found, figure) expect(#found, found, figure)
+
+static int failures = 0;
+
+static void expect(const char *what, uint64_t found, uint64_t figure)
+{
+    if (found == figure)
+        return;
+    printf("%s is %" PRIu64 ", not %" PRIu64 "\n", what, found, figure);
+    failures++;
+}
+
+/* Makes a list ready for an answer. */
+static uint32_t *ready(uint32_t list[ROOM])
+{
+    for (uint32_t i = 0; i < ROOM; i++)
+        list[i] = SPARE + i;
+    return list;
+}
+
+static void expect_five(const char *what, const uint32_t *found, const uint32_t figures[D])
+{
+    for (int k = 0; k < D; k++)
+        expect(what, found[k], figures[k]);
+}
+
+static const uint32_t extents[D] = {101, 67, 41, 999983, 211};
+static const uint32_t weights[D] = {3569424485, 1132923280, 2564946055, 1861655, 1862693460};
+static const uint32_t cuts[D] = {4, 14, 6, 420, 10};
+static const uint32_t moduli[D] = {1, 2, 2, 84, 10};
+static const uint32_t matrix[D][D] = {{0, 0, 0, 0, 0}, {1, 1, 0, 0, 0}, {0, 1, 1, 0, 0}, {83, 12, 70, 1, 0}, {1, 8, 3, 9, 1}};
+
+static void plan_places(uint32_t plan[ROOM])
+{
+    EXPECT(multipartition_plan(3360, D, extents, D, weights, D, ready(plan), MULTIPARTITION_PLAN_LENGTH), MULTIPARTITION_ANSWERED);
+    EXPECT(plan[MULTIPARTITION_DIMENSIONS], D);
+    EXPECT(plan[MULTIPARTITION_PROCESSORS], 3360);
+    expect_five("an extent", plan + MULTIPARTITION_EXTENTS, extents);
+    expect_five("a weight", plan + MULTIPARTITION_WEIGHTS, weights);
+    expect_five("a cut", plan + MULTIPARTITION_CUTS, cuts);
+    EXPECT(plan[MULTIPARTITION_COST_LOW], 512620450);
+    EXPECT(plan[MULTIPARTITION_COST_HIGH], 15);
+    expect_five("a modulus", plan + MULTIPARTITION_MODULI, moduli);
+    for (int i = 0; i < D; i++)
+        expect_five("a matrix entry", plan + MULTIPARTITION_MATRIX + i * MULTIPARTITION_ROW_LENGTH, matrix[i]);
+}
+
+static void answer_places(const uint32_t *plan)
+{
+    const size_t n = MULTIPARTITION_PLAN_LENGTH;
+    const uint32_t position[D] = {3, 11, 4, 217, 8};
+    uint32_t answer[ROOM];
+    EXPECT(multipartition_owner(plan, n, position, D, ready(answer), MULTIPARTITION_OWNER_LENGTH), 0);
+    EXPECT(answer[MULTIPARTITION_OWNER], 1224);
+    EXPECT(multipartition_neighbour(plan, n, 1234, 3, 1, ready(answer), MULTIPARTITION_NEIGHBOUR_LENGTH), 0);
+    EXPECT(answer[MULTIPARTITION_NEIGHBOUR_FOUND], 1);
+    EXPECT(answer[MULTIPARTITION_NEIGHBOUR], 257);
+    EXPECT(multipartition_neighbour(plan, n, 1234, 3, 0, ready(answer), MULTIPARTITION_NEIGHBOUR_LENGTH), 0);
+    EXPECT(answer[MULTIPARTITION_NEIGHBOUR], 531);
+    EXPECT(multipartition_slab(plan, n, 4, 217, ready(answer), MULTIPARTITION_SLAB_LENGTH), 0);
+    EXPECT(answer[MULTIPARTITION_SLAB_FIRST], 516657);
+    EXPECT(answer[MULTIPARTITION_SLAB_AFTER], 519038);
+    EXPECT(multipartition_slab_of(plan, n, 2, 56, ready(answer), MULTIPARTITION_SLAB_OF_LENGTH), 0);
+    EXPECT(answer[MULTIPARTITION_SLAB_OF], 11);
+    EXPECT(multipartition_tile_number(plan, n, position, D, ready(answer), MULTIPARTITION_TILE_LENGTH), 0);
+    EXPECT(answer[MULTIPARTITION_TILE], 1354579);
+    EXPECT(multipartition_tile_position(plan, n, 1354579, ready(answer), D), 0);
+    expect_five("a coordinate of a tile", answer, position);
+}
+
+static void step_places(const uint32_t *plan)
+{
+    const size_t n = MULTIPARTITION_PLAN_LENGTH;
+    const uint32_t position[D] = {3, 11, 4, 217, 8};
+    const uint32_t up[D] = {3, 12, 4, 217, 8};
+    const uint32_t down[D] = {3, 10, 4, 217, 8};
+    const uint32_t zeros[D] = {0};
+    uint32_t answer[ROOM];
+    EXPECT(multipartition_step(plan, n, position, D, 2, 1, ready(answer), MULTIPARTITION_STEP_LENGTH(D)), 0);
+    EXPECT(answer[MULTIPARTITION_STEP_INSIDE], 1);
+    expect_five("a coordinate one step up", answer + MULTIPARTITION_STEP_POSITION, up);
+    EXPECT(multipartition_step(plan, n, position, D, 2, 0, ready(answer), MULTIPARTITION_STEP_LENGTH(D)), 0);
+    EXPECT(answer[MULTIPARTITION_STEP_INSIDE], 1);
+    expect_five("a coordinate one step down", answer + MULTIPARTITION_STEP_POSITION, down);
+    EXPECT(multipartition_step(plan, n, position, D, 1, 1, ready(answer), MULTIPARTITION_STEP_LENGTH(D)), 0);
+    EXPECT(answer[MULTIPARTITION_STEP_INSIDE], 0);
+    expect_five("a coordinate beyond the edge", answer + MULTIPARTITION_STEP_POSITION, zeros);
+}
+
+/* A plan made by hand, through the names. The tile one step from the first along dimension k has column k as its coordinates. */
+static void plan_by_hand(void)
+{
+    const size_t n = MULTIPARTITION_PLAN_LENGTH;
+    const uint32_t hand_moduli[D] = {4, 6, 7, 8, 3};
+    const uint32_t rows[D][D] = {{3, 1, 2, 0, 1}, {5, 2, 4, 3, 1}, {6, 3, 1, 5, 2}, {7, 4, 6, 1, 3}, {2, 1, 0, 2, 1}};
+    const uint32_t owners[D] = {4031, 1429, 2730, 629, 1234};
+    uint32_t plan[ROOM], answer[ROOM];
+    ready(plan);
+    plan[MULTIPARTITION_DIMENSIONS] = D;
+    plan[MULTIPARTITION_PROCESSORS] = 4032;
+    for (int i = 0; i < D; i++) {
+        plan[MULTIPARTITION_EXTENTS + i] = extents[i];
+        plan[MULTIPARTITION_CUTS + i] = cuts[i];
+        plan[MULTIPARTITION_MODULI + i] = hand_moduli[i];
+        for (int k = 0; k < D; k++)
+            plan[MULTIPARTITION_MATRIX + i * MULTIPARTITION_ROW_LENGTH + k] = rows[i][k];
+    }
+    for (int k = 0; k < D; k++) {
+        uint32_t position[D] = {0};
+        position[k] = 1;
+        EXPECT(multipartition_owner(plan, n, position, D, ready(answer), MULTIPARTITION_OWNER_LENGTH), 0);
+        EXPECT(answer[MULTIPARTITION_OWNER], owners[k]);
+    }
+    plan[MULTIPARTITION_CUTS + 3] = 1;
+    EXPECT(multipartition_neighbour(plan, n, 1234, 4, 1, ready(answer), MULTIPARTITION_NEIGHBOUR_LENGTH), 0);
+    EXPECT(answer[MULTIPARTITION_NEIGHBOUR_FOUND], 0);
+    EXPECT(answer[MULTIPARTITION_NEIGHBOUR], 0);
+}
+
+static void chain_lists(void)
+{
+    const size_t n = MULTIPARTITION_PLAN_LENGTH;
+    const uint32_t eights[3] = {8, 8, 8}, ones[3] = {1, 1, 1};
+    const uint32_t lowest[4] = {1, 2, 4, 3}, higher[8] = {8, 7, 6, 5, 0, 0, 0, 0};
+    uint32_t plan[ROOM], heads[ROOM], nexts[ROOM];
+    EXPECT(multipartition_plan(4, 3, eights, 3, ones, 3, ready(plan), n), 0);
+    EXPECT(multipartition_chains(plan, n, ready(heads), 4, ready(nexts), 8), 0);
+    for (int q = 0; q < 4; q++)
+        expect("a lowest tile", heads[q], lowest[q]);
+    for (int t = 0; t < 8; t++)
+        expect("a next higher tile", nexts[t], higher[t]);
+}
+
+int main(void)
+{
+    uint32_t plan[ROOM];
+    plan_places(plan);
+    answer_places(plan);
+    step_places(plan);
+    plan_by_hand();
+    chain_lists();
+    if (failures == 0)
+        printf("every place is as named\n");
+    return failures == 0 ? EXIT_SUCCESS : EXIT_FAILURE;
+}
