@@ -1,0 +1,152 @@
+/* Each call in a thread that has just the stack that the header states. A thread's own records and the frames of the C library take a part of its
+ * stack that differs from system to system; so the thread gets THREAD bytes more, uses its stack up until the stated bytes are left, and makes the
+ * call there. What this program itself puts on the stack from there on counts as the call's. Below the stack lies memory that may not be touched. */
+#define _DEFAULT_SOURCE
+#include <inttypes.h>
+#include <pthread.h>
+#include <stdio.h>
+#include <stdlib.h>
+#include <string.h>
+#include <sys/mman.h>
+
+#include "multipartition.h"
+
+enum { THREAD = 1 << 16, GUARD = 1 << 20, UNUSED = 0xA5, MOST = 5, N = MULTIPARTITION_PLAN_LENGTH };
+
+static uint32_t plan[N];
+static uint32_t position[MOST];
+static uint32_t answer[MULTIPARTITION_STEP_LENGTH(MOST)];
+static uint32_t *heads, *nexts;
+static size_t tiles;
+
+static void check(uint64_t returned)
+{
+    if (returned != MULTIPARTITION_ANSWERED)
+        exit(EXIT_FAILURE);
+}
+
+static const uint32_t extents[MOST] = {1000000, 1000000, 1000000, 1000000, 1000000};
+static const uint32_t weights[][MOST] = {{1, 1, 1, 1, 1}, {0, 0, 1, 30809, 1559}, {10000, 1000, 100, 10, 1}};
+
+/* Every processor count with every number of dimensions. */
+static void plan_all(void)
+{
+    for (uint32_t p = 1; p <= 4096; p++)
+        for (uint32_t d = 2; d <= MOST; d++)
+            for (size_t w = 0; w < sizeof weights / sizeof *weights; w++)
+                check(multipartition_plan(p, d, extents, d, weights[w], d, plan, N));
+}
+
+/* The questions are about the plan of a count with most divisors. */
+static void plan_one(void)
+{
+    check(multipartition_plan(3360, MOST, extents, MOST, weights[0], MOST, plan, N));
+    tiles = 1;
+    for (int k = 0; k < MOST; k++) {
+        tiles *= plan[MULTIPARTITION_CUTS + k];
+        position[k] = plan[MULTIPARTITION_CUTS + k] - 1;
+    }
+}
+
+static void ask_owner(void)
+{
+    check(multipartition_owner(plan, N, position, MOST, answer, MULTIPARTITION_OWNER_LENGTH));
+}
+
+static void ask_neighbour(void)
+{
+    check(multipartition_neighbour(plan, N, 3359, MOST, 0, answer, MULTIPARTITION_NEIGHBOUR_LENGTH));
+}
+
+static void ask_slab(void)
+{
+    check(multipartition_slab(plan, N, MOST, position[MOST - 1], answer, MULTIPARTITION_SLAB_LENGTH));
+}
+
+static void ask_slab_of(void)
+{
+    check(multipartition_slab_of(plan, N, MOST, 999999, answer, MULTIPARTITION_SLAB_OF_LENGTH));
+}
+
+static void ask_tile_number(void)
+{
+    check(multipartition_tile_number(plan, N, position, MOST, answer, MULTIPARTITION_TILE_LENGTH));
+}
+
+static void ask_tile_position(void)
+{
+    check(multipartition_tile_position(plan, N, (uint32_t)tiles, answer, MOST));
+}
+
+static void ask_step(void)
+{
+    check(multipartition_step(plan, N, position, MOST, MOST, 0, answer, MULTIPARTITION_STEP_LENGTH(MOST)));
+}
+
+/* The planner's plan, and one by hand in which owners along the last dimension are not consecutive. */
+static void ask_chains(void)
+{
+    uint32_t *last = plan + MULTIPARTITION_MATRIX + (MOST - 1) * (MULTIPARTITION_ROW_LENGTH + 1);
+    check(multipartition_chains(plan, N, heads, plan[MULTIPARTITION_PROCESSORS], nexts, tiles));
+    *last = 0;
+    check(multipartition_chains(plan, N, heads, plan[MULTIPARTITION_PROCESSORS], nexts, tiles));
+    *last = 1;
+}
+
+struct run {
+    void (*call)(void);
+    unsigned char *low;
+    size_t stated;
+};
+
+/* Makes the call where only the stated bytes are left. */
+static void *thread(void *argument)
+{
+    const struct run *run = argument;
+    unsigned char here = 0;
+    volatile unsigned char used_up[(size_t)(&here - run->low) - run->stated];
+    used_up[0] = here;
+    run->call();
+    return used_up[0] == here ? argument : NULL;
+}
+
+static void within(const char *what, size_t stated, void (*call)(void))
+{
+    const size_t size = stated + THREAD;
+    unsigned char *memory = mmap(NULL, GUARD + size, PROT_READ | PROT_WRITE, MAP_PRIVATE | MAP_ANONYMOUS, -1, 0);
+    if (memory == MAP_FAILED || mprotect(memory, GUARD, PROT_NONE) != 0)
+        abort();
+    struct run run = {call, memory + GUARD, stated};
+    memset(run.low, UNUSED, size);
+    printf("%s: ", what);
+    fflush(stdout);
+    pthread_attr_t attributes;
+    pthread_t id;
+    if (pthread_attr_init(&attributes) != 0 || pthread_attr_setstack(&attributes, run.low, size) != 0 ||
+        pthread_create(&id, &attributes, thread, &run) != 0 || pthread_join(id, NULL) != 0)
+        abort();
+    size_t unused = 0;
+    while (run.low[unused] == UNUSED)
+        unused++;
+    printf("%zu of %zu bytes\n", stated - unused, stated);
+    munmap(memory, GUARD + size);
+}
+
+int main(void)
+{
+    plan_one();
+    heads = malloc(plan[MULTIPARTITION_PROCESSORS] * sizeof *heads);
+    nexts = malloc(tiles * sizeof *nexts);
+    if (!heads || !nexts)
+        abort();
+    within("owner", MULTIPARTITION_QUESTION_STACK, ask_owner);
+    within("neighbour", MULTIPARTITION_QUESTION_STACK, ask_neighbour);
+    within("slab", MULTIPARTITION_QUESTION_STACK, ask_slab);
+    within("slab of", MULTIPARTITION_QUESTION_STACK, ask_slab_of);
+    within("tile number", MULTIPARTITION_QUESTION_STACK, ask_tile_number);
+    within("tile position", MULTIPARTITION_QUESTION_STACK, ask_tile_position);
+    within("step", MULTIPARTITION_QUESTION_STACK, ask_step);
+    within("chains", MULTIPARTITION_CHAINS_STACK, ask_chains);
+    within("plan", MULTIPARTITION_PLAN_STACK, plan_all);
+    return EXIT_SUCCESS;
+}
