@@ -51,6 +51,34 @@ extern "C" {
         answer_length: usize,
     ) -> u64;
 
+    fn multipartition_tile_number(
+        plan: *const u32,
+        plan_length: usize,
+        position: *const u32,
+        position_length: usize,
+        answer: *mut u32,
+        answer_length: usize,
+    ) -> u64;
+
+    fn multipartition_tile_position(
+        plan: *const u32,
+        plan_length: usize,
+        tile: u32,
+        answer: *mut u32,
+        answer_length: usize,
+    ) -> u64;
+
+    fn multipartition_step(
+        plan: *const u32,
+        plan_length: usize,
+        position: *const u32,
+        position_length: usize,
+        dimension: u32,
+        up: u32,
+        answer: *mut u32,
+        answer_length: usize,
+    ) -> u64;
+
     fn multipartition_chains(
         plan: *const u32,
         plan_length: usize,
@@ -123,6 +151,46 @@ pub fn slab_of(plan: &[u32], dimension: u32, element: u32, answer: &mut [u32]) -
             plan.len(),
             dimension,
             element,
+            answer.as_mut_ptr(),
+            answer.len(),
+        )
+    }
+}
+
+pub fn tile_number(plan: &[u32], position: &[u32], answer: &mut [u32]) -> u64 {
+    unsafe {
+        multipartition_tile_number(
+            plan.as_ptr(),
+            plan.len(),
+            position.as_ptr(),
+            position.len(),
+            answer.as_mut_ptr(),
+            answer.len(),
+        )
+    }
+}
+
+pub fn tile_position(plan: &[u32], tile: u32, answer: &mut [u32]) -> u64 {
+    unsafe {
+        multipartition_tile_position(
+            plan.as_ptr(),
+            plan.len(),
+            tile,
+            answer.as_mut_ptr(),
+            answer.len(),
+        )
+    }
+}
+
+pub fn step(plan: &[u32], position: &[u32], dimension: u32, up: u32, answer: &mut [u32]) -> u64 {
+    unsafe {
+        multipartition_step(
+            plan.as_ptr(),
+            plan.len(),
+            position.as_ptr(),
+            position.len(),
+            dimension,
+            up,
             answer.as_mut_ptr(),
             answer.len(),
         )

@@ -2,7 +2,7 @@
 
 use oracle::plan::{plan_job, Plan};
 use oracle::refusal::{self, Refusal};
-use oracle::{chains, neighbours, owners, slabs};
+use oracle::{chains, neighbours, owners, slabs, tiles};
 
 use crate::calls;
 use crate::guarded::Guarded;
@@ -61,6 +61,16 @@ fn answer(plan: &Plan, question: &Question) -> Result<Vec<u32>, Refusal> {
             vec![first, after]
         }
         Question::SlabOf { dimension, element } => vec![slabs::slab_of(plan, dimension, element)?],
+        Question::TileNumber { ref position } => vec![tiles::number(plan, position)?],
+        Question::TilePosition { tile } => tiles::position(plan, tile)?,
+        Question::Step {
+            ref position,
+            dimension,
+            up,
+        } => match tiles::step(plan, position, dimension, up != 0)? {
+            Some(moved) => [vec![1], moved].concat(),
+            None => vec![0; 1 + plan.dimensions()],
+        },
     };
     Ok(numbers)
 }
@@ -71,11 +81,7 @@ pub fn ask(lists: &mut Lists, list: &[u32], question: &Question, lent: &[u32]) -
     let answered = plan_of(list)
         .ok_or(refusal::SHAPE)
         .and_then(|plan| answer(&plan, question));
-    let position = match question {
-        Question::Owner { position } => &position[..],
-        _ => &[],
-    };
-    let [list, position, lent_list] = lists.hold([list, position, lent]);
+    let [list, position, lent_list] = lists.hold([list, question.position(), lent]);
     let returned = match *question {
         Question::Owner { .. } => calls::owner(list, position, lent_list),
         Question::Neighbour {
@@ -86,6 +92,11 @@ pub fn ask(lists: &mut Lists, list: &[u32], question: &Question, lent: &[u32]) -
         Question::Slab { dimension, slab } => calls::slab(list, dimension, slab, lent_list),
         Question::SlabOf { dimension, element } => {
             calls::slab_of(list, dimension, element, lent_list)
+        }
+        Question::TileNumber { .. } => calls::tile_number(list, position, lent_list),
+        Question::TilePosition { tile } => calls::tile_position(list, tile, lent_list),
+        Question::Step { dimension, up, .. } => {
+            calls::step(list, position, dimension, up, lent_list)
         }
     };
     assert_eq!(

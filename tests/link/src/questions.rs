@@ -35,14 +35,47 @@ pub enum Question {
         dimension: u32,
         element: u32,
     },
+    TileNumber {
+        position: Vec<u32>,
+    },
+    TilePosition {
+        tile: u32,
+    },
+    Step {
+        position: Vec<u32>,
+        dimension: u32,
+        up: u32,
+    },
 }
 
 impl Question {
-    /// How many places the answer has.
-    pub fn places(&self) -> usize {
+    /// How many places the answer has, with so many dimensions.
+    pub fn places(&self, d: usize) -> usize {
         match self {
-            Question::Owner { .. } | Question::SlabOf { .. } => 1,
+            Question::Owner { .. } | Question::SlabOf { .. } | Question::TileNumber { .. } => 1,
             Question::Neighbour { .. } | Question::Slab { .. } => 2,
+            Question::TilePosition { .. } => d,
+            Question::Step { .. } => 1 + d,
+        }
+    }
+
+    /// The numbers that the header says the call may return.
+    pub fn returns(&self) -> &'static [u32] {
+        match self {
+            Question::Owner { .. }
+            | Question::TileNumber { .. }
+            | Question::TilePosition { .. } => &[0, 6, 8, 9],
+            _ => &[0, 6, 7, 8, 9],
+        }
+    }
+
+    /// The position that goes with the question, if one does.
+    pub fn position(&self) -> &[u32] {
+        match self {
+            Question::Owner { position }
+            | Question::TileNumber { position }
+            | Question::Step { position, .. } => position,
+            _ => &[],
         }
     }
 }
@@ -174,38 +207,77 @@ pub fn plan_list(random: &mut Random, pool: &[Plan]) -> Vec<u32> {
     list
 }
 
+/// The number at a place of a list that may be too short.
+fn place(list: &[u32], at: usize) -> u32 {
+    list.get(at).copied().unwrap_or(3)
+}
+
+/// How many dimensions a list says that it has, or as many as fit in a list that says too many.
+pub fn dimensions(list: &[u32]) -> usize {
+    place(list, DIMENSIONS).min(6) as usize
+}
+
+/// A position in the grid of a list, or, once in a while, one of another length or with a coordinate too large.
+fn position(random: &mut Random, list: &[u32]) -> Vec<u32> {
+    let mut position: Vec<u32> = (0..dimensions(list))
+        .map(|k| mostly_below(random, place(list, CUTS + k)))
+        .collect();
+    if random.once_in(24) {
+        position.resize(random.between(0, 7) as usize, 0);
+    }
+    position
+}
+
+/// A tile of a list, or, once in a while, none: as likely one of the lowest or the highest as any other.
+fn tile(random: &mut Random, list: &[u32]) -> u32 {
+    let cuts = (0..dimensions(list)).map(|k| place(list, CUTS + k));
+    let tiles = cuts.fold(1, u32::wrapping_mul);
+    match random.between(0, 3) {
+        0 => random.between(0, 3) as u32,
+        1 => tiles
+            .wrapping_sub(random.between(0, 3) as u32)
+            .wrapping_add(1),
+        _ => mostly_below(random, tiles).wrapping_add(1),
+    }
+}
+
 /// A question about the plan of a list, as if the list were in order.
 pub fn question(random: &mut Random, list: &[u32]) -> Question {
-    let place = |at: usize| list.get(at).copied().unwrap_or(3);
-    let d = place(DIMENSIONS).min(6);
+    let d = dimensions(list) as u32;
     let dimension = if random.once_in(12) {
         another(random, d)
     } else {
         random.between(1, u64::from(d.max(1))) as u32
     };
     let k = (dimension as usize).clamp(1, 5) - 1;
-    match random.between(0, 3) {
-        0 => {
-            let mut position: Vec<u32> = (0..d as usize)
-                .map(|k| mostly_below(random, place(CUTS + k)))
-                .collect();
-            if random.once_in(24) {
-                position.resize(random.between(0, 7) as usize, 0);
-            }
-            Question::Owner { position }
-        }
+    let up = *random.pick(&[0, 0, 1, 1, 2, u32::MAX]);
+    match random.between(0, 6) {
+        0 => Question::Owner {
+            position: position(random, list),
+        },
         1 => Question::Neighbour {
-            processor: mostly_below(random, place(PROCESSORS)),
+            processor: mostly_below(random, place(list, PROCESSORS)),
             dimension,
-            up: *random.pick(&[0, 0, 1, 1, 2, u32::MAX]),
+            up,
         },
         2 => Question::Slab {
             dimension,
-            slab: mostly_below(random, place(CUTS + k)),
+            slab: mostly_below(random, place(list, CUTS + k)),
         },
-        _ => Question::SlabOf {
+        3 => Question::SlabOf {
             dimension,
-            element: mostly_below(random, place(EXTENTS + k)),
+            element: mostly_below(random, place(list, EXTENTS + k)),
+        },
+        4 => Question::TileNumber {
+            position: position(random, list),
+        },
+        5 => Question::TilePosition {
+            tile: tile(random, list),
+        },
+        _ => Question::Step {
+            position: position(random, list),
+            dimension,
+            up,
         },
     }
 }

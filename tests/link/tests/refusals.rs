@@ -1,6 +1,8 @@
 //! Every refusal through the link, in the order of document 01's table, and what a refusal leaves alone.
 
-use link::calls::{chains, neighbour, owner, plan, slab, slab_of};
+use link::calls::{
+    chains, neighbour, owner, plan, slab, slab_of, step, tile_number, tile_position,
+};
 use link::plan_list::{
     PlanList, CUTS, DIMENSIONS, EXTENTS, MATRIX, MODULI, PLAN_LENGTH, PROCESSORS, ROW_LENGTH,
 };
@@ -49,6 +51,9 @@ fn plan_lists_of_another_length() {
         refused::<2>(6, |answer| neighbour(plan, 0, 1, 1, answer));
         refused::<2>(6, |answer| slab(plan, 1, 0, answer));
         refused::<1>(6, |answer| slab_of(plan, 1, 0, answer));
+        refused::<1>(6, |answer| tile_number(plan, &[0; 3], answer));
+        refused::<3>(6, |answer| tile_position(plan, 1, answer));
+        refused::<4>(6, |answer| step(plan, &[0; 3], 1, 1, answer));
         refused::<4>(6, |heads| chains(plan, heads, &mut [0; 8]));
         refused::<8>(6, |nexts| chains(plan, &mut [0; 4], nexts));
     }
@@ -82,6 +87,9 @@ fn plans_out_of_shape() {
         refused::<2>(6, |answer| neighbour(&list, 0, 1, 1, answer));
         refused::<2>(6, |answer| slab(&list, 1, 0, answer));
         refused::<1>(6, |answer| slab_of(&list, 1, 0, answer));
+        refused::<1>(6, |answer| tile_number(&list, &[0; 3], answer));
+        refused::<3>(6, |answer| tile_position(&list, 1, answer));
+        refused::<4>(6, |answer| step(&list, &[0; 3], 1, 1, answer));
         refused::<4>(6, |heads| chains(&list, heads, &mut [0; 8]));
         refused::<8>(6, |nexts| chains(&list, &mut [0; 4], nexts));
     }
@@ -94,16 +102,24 @@ fn seven_before_eight_before_nine() {
         refused::<0>(7, |answer| neighbour(&list, 4, dimension, 1, answer));
         refused::<0>(7, |answer| slab(&list, dimension, 2, answer));
         refused::<0>(7, |answer| slab_of(&list, dimension, 8, answer));
+        refused::<0>(7, |answer| step(&list, &[2; 4], dimension, 1, answer));
     }
     for number in [8, u32::MAX] {
         refused::<0>(8, |answer| neighbour(&list, number, 3, 0, answer));
         refused::<0>(8, |answer| slab(&list, 3, number, answer));
         refused::<0>(8, |answer| slab_of(&list, 3, number, answer));
         refused::<0>(8, |answer| owner(&list, &[0, number, 0], answer));
+        refused::<0>(8, |answer| tile_number(&list, &[0, number, 0], answer));
+        refused::<0>(8, |answer| step(&list, &[0, number, 0], 2, 0, answer));
     }
-    refused::<0>(8, |answer| owner(&list, &[0, 0], answer));
-    refused::<0>(8, |answer| owner(&list, &[0, 0, 0, 0], answer));
-    refused::<0>(8, |answer| owner(&list, &[], answer));
+    for position in [&[0; 5][..], &[0; 4], &[0; 2], &[]] {
+        refused::<0>(8, |answer| owner(&list, position, answer));
+        refused::<0>(8, |answer| tile_number(&list, position, answer));
+        refused::<0>(8, |answer| step(&list, position, 3, 1, answer));
+    }
+    for tile in [0, 9, u32::MAX] {
+        refused::<0>(8, |answer| tile_position(&list, tile, answer));
+    }
     refused::<0>(9, |answer| owner(&list, &[1, 1, 1], answer));
     refused::<2>(9, |answer| owner(&list, &[1, 1, 1], answer));
     refused::<1>(9, |answer| neighbour(&list, 3, 3, 0, answer));
@@ -112,6 +128,12 @@ fn seven_before_eight_before_nine() {
     refused::<3>(9, |answer| slab(&list, 1, 1, answer));
     refused::<0>(9, |answer| slab_of(&list, 1, 7, answer));
     refused::<2>(9, |answer| slab_of(&list, 1, 7, answer));
+    refused::<0>(9, |answer| tile_number(&list, &[1, 1, 1], answer));
+    refused::<2>(9, |answer| tile_number(&list, &[1, 1, 1], answer));
+    refused::<2>(9, |answer| tile_position(&list, 8, answer));
+    refused::<4>(9, |answer| tile_position(&list, 8, answer));
+    refused::<3>(9, |answer| step(&list, &[1, 1, 1], 3, 0, answer));
+    refused::<5>(9, |answer| step(&list, &[1, 1, 1], 3, 1, answer));
     refused::<3>(9, |heads| chains(&list, heads, &mut [0; 8]));
     refused::<5>(9, |heads| chains(&list, heads, &mut [0; 8]));
     refused::<7>(9, |nexts| chains(&list, &mut [0; 4], nexts));
@@ -131,6 +153,18 @@ fn answers_of_the_first_example() {
     assert_eq!((neighbour(&list, 0, 2, 1, &mut two), two), (0, [1, 3]));
     assert_eq!((slab(&list, 3, 1, &mut two), two), (0, [4, 8]));
     assert_eq!((slab_of(&list, 3, 3, &mut one), one), (0, [0]));
+    assert_eq!((tile_number(&list, &[1, 0, 1], &mut one), one), (0, [6]));
+    let mut three = [77; 3];
+    assert_eq!((tile_position(&list, 6, &mut three), three), (0, [1, 0, 1]));
+    let mut four = [77; 4];
+    assert_eq!(
+        (step(&list, &[1, 0, 1], 2, 1, &mut four), four),
+        (0, [1, 1, 1, 1])
+    );
+    assert_eq!(
+        (step(&list, &[1, 0, 1], 1, 1, &mut four), four),
+        (0, [0; 4])
+    );
     let (mut heads, mut nexts) = ([77; 4], [77; 8]);
     assert_eq!(chains(&list, &mut heads, &mut nexts), 0);
     assert_eq!((heads, nexts), ([1, 2, 4, 3], [8, 7, 6, 5, 0, 0, 0, 0]));

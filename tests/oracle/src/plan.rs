@@ -92,13 +92,16 @@ impl Plan {
         }
         let d = self.dimensions();
         let moduli = &self.moduli[..d];
-        let multiplied: u128 = moduli.iter().map(|&m| u128::from(m)).product();
+        // Nothing if it has more than 128 bits.
+        let multiplied = moduli
+            .iter()
+            .try_fold(1u128, |product, &m| product.checked_mul(u128::from(m)));
         refusal::processors_in_range(self.p)
             && (0..d).all(|k| refusal::extent_in_range(self.extents[k]))
             && (0..d).all(|k| 1 <= self.cuts[k] && self.cuts[k] <= self.extents[k].min(4096))
             && self.tiles() <= 16_777_216
             && moduli.iter().all(|&m| m != 0)
-            && multiplied == u128::from(self.p)
+            && multiplied == Some(u128::from(self.p))
             && (0..d).all(|i| self.matrix[i][..d].iter().all(|&entry| entry < moduli[i]))
     }
 
@@ -191,7 +194,7 @@ mod tests {
     fn plans_are_in_shape_and_damage_is_seen() {
         let plan = grid(8, &[9, 9, 9], &[1, 1, 1]).unwrap();
         assert_eq!(plan.check_shape(), Ok(()));
-        let damage: [fn(&mut Plan); 15] = [
+        let damage: [fn(&mut Plan); 16] = [
             |plan| plan.d = 1,
             |plan| plan.d = 6,
             |plan| plan.p = 0,
@@ -204,6 +207,7 @@ mod tests {
             |plan| (plan.cuts, plan.extents) = ([4096, 4096, 2, 0, 0], [5000; 5]),
             |plan| plan.moduli[0] = 0,
             |plan| plan.moduli[1] = 3,
+            |plan| (plan.d, plan.moduli) = (5, [u32::MAX; 5]),
             |plan| plan.matrix[0][0] = 1,
             |plan| plan.matrix[1][2] = 2,
             |plan| plan.matrix[2][2] = 4,
