@@ -1,5 +1,5 @@
--- The law of `cheapest`: it answers the even, fitting cuts that precede all others, and nothing where no fitting cuts are even. The cuts that
--- fit are those of the enumeration, and what is chosen among lists is one of them and precedes each.
+-- The law of `cheapestWithin`: it answers the even cuts within `most` that precede all others, and nothing where no cuts within `most` are even.
+-- The cuts within `most` are those of the enumeration, and what is chosen among lists is one of them and precedes each.
 use mathlib.Core.Path.{_≡_, refl, sym, _∙_, ap, subst, subst⁻¹}
 use mathlib.Core.Logic.{_⊎_, inl, inr, ⊎-elim, _↔_}
 use mathlib.Core.Bool.{Bool, true, false, cond}
@@ -13,14 +13,14 @@ use lib.Dec.{eqb}
 use lib.ListN.{length}
 use Rattle.numbers.specs.Products.{product, without}
 use Rattle.multipartition.specs.Lists.{allBelow, startingWith, those}
-use Rattle.multipartition.specs.Cuts.{Even, isEven, Fits, fitting, costOf, Precedes, precedes, preferred, chosen, cheapest}
+use Rattle.multipartition.specs.Cuts.{Even, isEven, Within, cutsWithin, costOf, Precedes, precedes, preferred, chosen, cheapestWithin}
 use Rattle.multipartition.proofs.Tests.{false-not-true, allBelow-true-iff}
 use Rattle.multipartition.proofs.Order.{precedes-true, precedes-refl, precedes-trans, precedes-antisymm, precedes-total, precedes-le}
 
--- What an answer must be: even, fitting cuts that precede all others; or nothing, where no fitting cuts are even.
+-- What an answer must be: even cuts within `most` that precede all others; or nothing, where no cuts within `most` are even.
 abbrev pub Cheapest : ℕ → List ℕ → List ℕ → Option (List ℕ) → Type 0
-Cheapest p extents weights none = (v : List ℕ) → Fits extents v → Even p v → ⊥
-Cheapest p extents weights (some u) = Fits extents u × Even p u × ((v : List ℕ) → Fits extents v → Even p v → Precedes weights u v)
+Cheapest p most weights none = (v : List ℕ) → Within most v → Even p v → ⊥
+Cheapest p most weights (some u) = Within most u × Even p u × ((v : List ℕ) → Within most v → Even p v → Precedes weights u v)
 
 -- the test of evenness
 pub isEven-true : (p : ℕ) (v : List ℕ) → (isEven p v ≡ true) ↔ Even p v
@@ -94,26 +94,26 @@ in-startingWith from (suc n) xs c v low high i =
     (⊎-elim (λ (q : from ≡ c). inl (subst (λ (j : ℕ). In (j ∷ v) (map (λ x. from ∷ x) xs)) q (in-map-cons from v xs i)))
     (λ l. inr (in-startingWith (suc from) n xs c v l (omega arith) i)) (eq-or-lt-of-le low))
 
-in-fitting : (extents v : List ℕ) → Fits extents v → In v (fitting extents)
-unfolding fitting
-in-fitting [] [] h = inl refl
-in-fitting [] (c ∷ v) h = absurd h
-in-fitting (n ∷ extents) [] h = absurd h
-in-fitting (n ∷ extents) (c ∷ v) h = in-startingWith 1 n (fitting extents) c v (h .0) (omega arith) (in-fitting extents v (h .2))
+in-cutsWithin : (most v : List ℕ) → Within most v → In v (cutsWithin most)
+unfolding cutsWithin
+in-cutsWithin [] [] h = inl refl
+in-cutsWithin [] (c ∷ v) h = absurd h
+in-cutsWithin (n ∷ most) [] h = absurd h
+in-cutsWithin (n ∷ most) (c ∷ v) h = in-startingWith 1 n (cutsWithin most) c v (h .0) (omega arith) (in-cutsWithin most v (h .2))
 
-fits-of-in : (extents v : List ℕ) → In v (fitting extents) → Fits extents v
-unfolding fitting
-fits-of-in [] v (inl q) = subst⁻¹ (λ (z : List ℕ). Fits [] z) q tt
-fits-of-in [] v (inr h) = absurd h
-fits-of-in (n ∷ extents) v h = first v (starts-of-in 1 n (fitting extents) v h) (λ u i. fits-of-in extents u i)
+within-of-in : (most v : List ℕ) → In v (cutsWithin most) → Within most v
+unfolding cutsWithin
+within-of-in [] v (inl q) = subst⁻¹ (λ (z : List ℕ). Within [] z) q tt
+within-of-in [] v (inr h) = absurd h
+within-of-in (n ∷ most) v h = first v (starts-of-in 1 n (cutsWithin most) v h) (λ u i. within-of-in most u i)
   where
-    first : (v : List ℕ) → Starts 1 n (fitting extents) v → ((u : List ℕ) → In u (fitting extents) → Fits extents u) → Fits (n ∷ extents) v
+    first : (v : List ℕ) → Starts 1 n (cutsWithin most) v → ((u : List ℕ) → In u (cutsWithin most) → Within most u) → Within (n ∷ most) v
     first [] j rest = absurd j
     first (c ∷ v) j rest = (j .0, omega arith, rest v (j .2))
 
--- the enumeration has the fitting cuts, and no others
-pub fitting-in : (extents v : List ℕ) → In v (fitting extents) ↔ Fits extents v
-fitting-in extents v = (fits-of-in extents v, in-fitting extents v)
+-- the enumeration has the cuts within `most`, and no others
+pub cutsWithin-in : (most v : List ℕ) → In v (cutsWithin most) ↔ Within most v
+cutsWithin-in most v = (within-of-in most v, in-cutsWithin most v)
 
 -- those that pass a test
 pub those-in : (test : List ℕ → Bool) (v : List ℕ) (xs : List (List ℕ)) → In v (those test xs) ↔ (In v xs × (test v ≡ true))
@@ -164,52 +164,52 @@ chosen-meets weights (x ∷ xs) = preferred-chosen weights x xs (chosen weights 
 
 -- ---- the law
 
-cheapest-of-chosen : (p : ℕ) (extents weights : List ℕ) (o : Option (List ℕ)) → Chosen weights (those (isEven p) (fitting extents)) o → Cheapest p extents weights o
-cheapest-of-chosen p extents weights o c = go o c
+cheapest-of-chosen : (p : ℕ) (most weights : List ℕ) (o : Option (List ℕ)) → Chosen weights (those (isEven p) (cutsWithin most)) o → Cheapest p most weights o
+cheapest-of-chosen p most weights o c = go o c
   where
-    member : (v : List ℕ) → Fits extents v → Even p v → In v (those (isEven p) (fitting extents))
-    member v f e = those-in (isEven p) v (fitting extents) .1 (in-fitting extents v f, isEven-true p v .1 e)
+    member : (v : List ℕ) → Within most v → Even p v → In v (those (isEven p) (cutsWithin most))
+    member v f e = those-in (isEven p) v (cutsWithin most) .1 (in-cutsWithin most v f, isEven-true p v .1 e)
 
-    go : (o : Option (List ℕ)) → Chosen weights (those (isEven p) (fitting extents)) o → Cheapest p extents weights o
+    go : (o : Option (List ℕ)) → Chosen weights (those (isEven p) (cutsWithin most)) o → Cheapest p most weights o
     go none c = λ v f e. c v (member v f e)
     go (some u) c =
-        let i = those-in (isEven p) u (fitting extents) .0 (c .0) in
-        (fits-of-in extents u (i .0), isEven-true p u .0 (i .1), λ v f e. c .1 v (member v f e))
+        let i = those-in (isEven p) u (cutsWithin most) .0 (c .0) in
+        (within-of-in most u (i .0), isEven-true p u .0 (i .1), λ v f e. c .1 v (member v f e))
 
--- `cheapest` answers as it must
-pub cheapest-meets : (p : ℕ) (extents weights : List ℕ) → Cheapest p extents weights (cheapest p extents weights)
-unfolding cheapest
-cheapest-meets p extents weights =
-    cheapest-of-chosen p extents weights (chosen weights (those (isEven p) (fitting extents))) (chosen-meets weights (those (isEven p) (fitting extents)))
+-- `cheapestWithin` answers as it must
+pub cheapest-meets : (p : ℕ) (most weights : List ℕ) → Cheapest p most weights (cheapestWithin p most weights)
+unfolding cheapestWithin
+cheapest-meets p most weights =
+    cheapest-of-chosen p most weights (chosen weights (those (isEven p) (cutsWithin most))) (chosen-meets weights (those (isEven p) (cutsWithin most)))
 
-cheapest-unique : (p : ℕ) (extents weights : List ℕ) (o q : Option (List ℕ)) → Cheapest p extents weights o → Cheapest p extents weights q → o ≡ q
-cheapest-unique p extents weights none none h k = refl
-cheapest-unique p extents weights none (some v) h k = absurd (h v (k .0) (k .1))
-cheapest-unique p extents weights (some u) none h k = absurd (k u (h .0) (h .1))
-cheapest-unique p extents weights (some u) (some v) h k = ap some (precedes-antisymm weights u v (h .2 v (k .0) (k .1)) (k .2 u (h .0) (h .1)))
+cheapest-unique : (p : ℕ) (most weights : List ℕ) (o q : Option (List ℕ)) → Cheapest p most weights o → Cheapest p most weights q → o ≡ q
+cheapest-unique p most weights none none h k = refl
+cheapest-unique p most weights none (some v) h k = absurd (h v (k .0) (k .1))
+cheapest-unique p most weights (some u) none h k = absurd (k u (h .0) (h .1))
+cheapest-unique p most weights (some u) (some v) h k = ap some (precedes-antisymm weights u v (h .2 v (k .0) (k .1)) (k .2 u (h .0) (h .1)))
 
 -- and nothing else is as it must be
-pub cheapest-only : (p : ℕ) (extents weights : List ℕ) (o : Option (List ℕ)) → Cheapest p extents weights o → cheapest p extents weights ≡ o
-cheapest-only p extents weights o h = cheapest-unique p extents weights (cheapest p extents weights) o (cheapest-meets p extents weights) h
+pub cheapest-only : (p : ℕ) (most weights : List ℕ) (o : Option (List ℕ)) → Cheapest p most weights o → cheapestWithin p most weights ≡ o
+cheapest-only p most weights o h = cheapest-unique p most weights (cheapestWithin p most weights) o (cheapest-meets p most weights) h
 
--- the law by which others use `cheapest`
-pub cheapest-law : (p : ℕ) (extents weights : List ℕ) (o : Option (List ℕ)) → (cheapest p extents weights ≡ o) ↔ Cheapest p extents weights o
-cheapest-law p extents weights o =
-    ((λ e. subst (λ (q : Option (List ℕ)). Cheapest p extents weights q) e (cheapest-meets p extents weights)), cheapest-only p extents weights o)
+-- the law by which others use `cheapestWithin`
+pub cheapest-law : (p : ℕ) (most weights : List ℕ) (o : Option (List ℕ)) → (cheapestWithin p most weights ≡ o) ↔ Cheapest p most weights o
+cheapest-law p most weights o =
+    ((λ e. subst (λ (q : Option (List ℕ)). Cheapest p most weights q) e (cheapest-meets p most weights)), cheapest-only p most weights o)
 
-pub cheapest-fits : (p : ℕ) (extents weights u : List ℕ) → cheapest p extents weights ≡ some u → Fits extents u
-cheapest-fits p extents weights u e = cheapest-law p extents weights (some u) .0 e .0
+pub cheapest-within : (p : ℕ) (most weights u : List ℕ) → cheapestWithin p most weights ≡ some u → Within most u
+cheapest-within p most weights u e = cheapest-law p most weights (some u) .0 e .0
 
-pub cheapest-even : (p : ℕ) (extents weights u : List ℕ) → cheapest p extents weights ≡ some u → Even p u
-cheapest-even p extents weights u e = cheapest-law p extents weights (some u) .0 e .1
+pub cheapest-even : (p : ℕ) (most weights u : List ℕ) → cheapestWithin p most weights ≡ some u → Even p u
+cheapest-even p most weights u e = cheapest-law p most weights (some u) .0 e .1
 
-pub cheapest-precedes : (p : ℕ) (extents weights u v : List ℕ) → cheapest p extents weights ≡ some u → Fits extents v → Even p v → Precedes weights u v
-cheapest-precedes p extents weights u v e f even = cheapest-law p extents weights (some u) .0 e .2 v f even
+pub cheapest-precedes : (p : ℕ) (most weights u v : List ℕ) → cheapestWithin p most weights ≡ some u → Within most v → Even p v → Precedes weights u v
+cheapest-precedes p most weights u v e f even = cheapest-law p most weights (some u) .0 e .2 v f even
 
--- no even, fitting cuts are cheaper than those that it answers
-pub cheapest-le : (p : ℕ) (extents weights u v : List ℕ) → cheapest p extents weights ≡ some u → Fits extents v → Even p v → costOf weights u ≤ costOf weights v
-cheapest-le p extents weights u v e f even = precedes-le weights u v (cheapest-precedes p extents weights u v e f even)
+-- no even cuts within `most` are cheaper than those that it answers
+pub cheapest-le : (p : ℕ) (most weights u v : List ℕ) → cheapestWithin p most weights ≡ some u → Within most v → Even p v → costOf weights u ≤ costOf weights v
+cheapest-le p most weights u v e f even = precedes-le weights u v (cheapest-precedes p most weights u v e f even)
 
--- it answers nothing only where no fitting cuts are even: refusal 5
-pub cheapest-none : (p : ℕ) (extents weights v : List ℕ) → cheapest p extents weights ≡ none → Fits extents v → Even p v → ⊥
-cheapest-none p extents weights v e f even = cheapest-law p extents weights none .0 e v f even
+-- it answers nothing only where no cuts within `most` are even: refusal 5
+pub cheapest-none : (p : ℕ) (most weights v : List ℕ) → cheapestWithin p most weights ≡ none → Within most v → Even p v → ⊥
+cheapest-none p most weights v e f even = cheapest-law p most weights none .0 e v f even

@@ -14,7 +14,7 @@ use Rattle.numbers.specs.Sums.{sum, same}
 use Rattle.numbers.proofs.Congruence.{Congruent, congruent-add, congruent-mul, congruent-cancel-add}
 use Rattle.numbers.proofs.Sums.{sum-const, sum-mul-left}
 use Rattle.multipartition.specs.Lists.{first, rest, firstList, restLists}
-use Rattle.multipartition.specs.Cuts.{cheapest}
+use Rattle.multipartition.specs.Cuts.{cheapestWithin}
 use Rattle.multipartition.specs.Moduli.{moduliOf}
 use Rattle.multipartition.specs.Matrix.{matrixOf}
 use Rattle.multipartition.specs.MixedRadix.{numberFrom, digitsOf}
@@ -185,6 +185,6 @@ faces-differ p cuts hp minimal x y w w' face e = go (face .by-one)
         step-changes-owner p cuts hp minimal y k l w' (subst (λ (v : List ℕ). Inside cuts v) x-is w) (sym e ∙ ap (ownerOf p cuts) x-is)
 
 -- So it is with the cheapest cuts.
-pub cheapest-faces-differ : (p : ℕ) (extents weights cuts : List ℕ) → zero < p → cheapest p extents weights ≡ some cuts
+pub cheapest-faces-differ : (p : ℕ) (most weights cuts : List ℕ) → zero < p → cheapestWithin p most weights ≡ some cuts
     → (x y : List ℕ) → Inside cuts x → Inside cuts y → Face x y → ownerOf p cuts x ≢ ownerOf p cuts y
-cheapest-faces-differ p extents weights cuts hp e = faces-differ p cuts hp (cheapest-minimal p extents weights cuts e)
+cheapest-faces-differ p most weights cuts hp e = faces-differ p cuts hp (cheapest-minimal p most weights cuts e)

@@ -1,39 +1,59 @@
--- What the theory uses of fitting cuts: there is one for each extent, none is 0 or above its extent, and fitting cuts of which none is made
--- larger, and none 0, still fit. Nothing else is said of `Fits` in the proofs about cuts.
+-- What the theory uses of cuts within `most`: there is one for each bound, none is 0 or above its bound, and cuts of which none is made larger,
+-- and none 0, are still within. Fitting cuts are those within the extents: what is said of `Fits` follows from that law.
 use mathlib.Core.Path.{_≡_, refl, ap}
+use mathlib.Core.Logic.{_↔_}
 use mathlib.Core.List.{List, [], _∷_}
+use mathlib.Core.Option.{some}
 use Prim.Native.Nat.{ℕ, zero, suc, _≤_, _<_}
 use native.Mathlib.Nat.{not-suc-le-zero, le-of-suc-le-suc, le-trans}
 use lib.ListN.{length, getD}
-use Rattle.multipartition.specs.Cuts.{Fits}
+use Rattle.multipartition.specs.Cuts.{Within, Fits, cheapest}
 use Rattle.multipartition.proofs.MixedRadix.{Positive}
 use Rattle.multipartition.proofs.Order.{AtMost}
+use Rattle.multipartition.proofs.Cheapest.{cheapest-within}
+
+pub within-length : (most cuts : List ℕ) → Within most cuts → length cuts ≡ length most
+within-length [] [] h = refl
+within-length [] (b ∷ cuts) h = absurd h
+within-length (n ∷ most) [] h = absurd h
+within-length (n ∷ most) (b ∷ cuts) h = ap suc (within-length most cuts (h .2))
+
+pub within-positive : (most cuts : List ℕ) → Within most cuts → Positive cuts
+unfolding Positive
+within-positive [] [] h = tt
+within-positive [] (b ∷ cuts) h = absurd h
+within-positive (n ∷ most) [] h = absurd h
+within-positive (n ∷ most) (b ∷ cuts) h = (h .0, within-positive most cuts (h .2))
+
+pub within-le : (most cuts : List ℕ) → Within most cuts → (k : ℕ) → k < length cuts → getD cuts k 0 ≤ getD most k 0
+within-le [] [] h k l = absurd (not-suc-le-zero l)
+within-le [] (b ∷ cuts) h k l = absurd h
+within-le (n ∷ most) [] h k l = absurd h
+within-le (n ∷ most) (b ∷ cuts) h zero l = h .1
+within-le (n ∷ most) (b ∷ cuts) h (suc k) l = within-le most cuts (h .2) k (le-of-suc-le-suc l)
+
+pub within-of-atMost : (most cuts lower : List ℕ) → Within most cuts → AtMost lower cuts → Positive lower → Within most lower
+unfolding Positive
+within-of-atMost [] [] [] h m z = tt
+within-of-atMost [] [] (c ∷ lower) h m z = absurd m
+within-of-atMost [] (b ∷ cuts) lower h m z = absurd h
+within-of-atMost (n ∷ most) [] lower h m z = absurd h
+within-of-atMost (n ∷ most) (b ∷ cuts) [] h m z = absurd m
+within-of-atMost (n ∷ most) (b ∷ cuts) (c ∷ lower) h m z = (z .0, le-trans (m .0) (h .1), within-of-atMost most cuts lower (h .2) (m .1) (z .1))
+
+-- ---- cuts that fit
+
+pub fits-iff-within : (extents cuts : List ℕ) → Fits extents cuts ↔ Within extents cuts
+fits-iff-within extents cuts = ((λ h. h), λ h. h)
+
+pub cheapest-fits : (p : ℕ) (extents weights cuts : List ℕ) → cheapest p extents weights ≡ some cuts → Fits extents cuts
+cheapest-fits p extents weights cuts e = fits-iff-within extents cuts .1 (cheapest-within p extents weights cuts e)
 
 pub fits-length : (extents cuts : List ℕ) → Fits extents cuts → length cuts ≡ length extents
-fits-length [] [] h = refl
-fits-length [] (b ∷ cuts) h = absurd h
-fits-length (n ∷ extents) [] h = absurd h
-fits-length (n ∷ extents) (b ∷ cuts) h = ap suc (fits-length extents cuts (h .2))
+fits-length extents cuts fits = within-length extents cuts (fits-iff-within extents cuts .0 fits)
 
 pub fits-positive : (extents cuts : List ℕ) → Fits extents cuts → Positive cuts
-unfolding Positive
-fits-positive [] [] h = tt
-fits-positive [] (b ∷ cuts) h = absurd h
-fits-positive (n ∷ extents) [] h = absurd h
-fits-positive (n ∷ extents) (b ∷ cuts) h = (h .0, fits-positive extents cuts (h .2))
+fits-positive extents cuts fits = within-positive extents cuts (fits-iff-within extents cuts .0 fits)
 
 pub fits-le-extent : (extents cuts : List ℕ) → Fits extents cuts → (k : ℕ) → k < length cuts → getD cuts k 0 ≤ getD extents k 0
-fits-le-extent [] [] h k l = absurd (not-suc-le-zero l)
-fits-le-extent [] (b ∷ cuts) h k l = absurd h
-fits-le-extent (n ∷ extents) [] h k l = absurd h
-fits-le-extent (n ∷ extents) (b ∷ cuts) h zero l = h .1
-fits-le-extent (n ∷ extents) (b ∷ cuts) h (suc k) l = fits-le-extent extents cuts (h .2) k (le-of-suc-le-suc l)
-
-pub fits-of-atMost : (extents cuts lower : List ℕ) → Fits extents cuts → AtMost lower cuts → Positive lower → Fits extents lower
-unfolding Positive
-fits-of-atMost [] [] [] h m z = tt
-fits-of-atMost [] [] (c ∷ lower) h m z = absurd m
-fits-of-atMost [] (b ∷ cuts) lower h m z = absurd h
-fits-of-atMost (n ∷ extents) [] lower h m z = absurd h
-fits-of-atMost (n ∷ extents) (b ∷ cuts) [] h m z = absurd m
-fits-of-atMost (n ∷ extents) (b ∷ cuts) (c ∷ lower) h m z = (z .0, le-trans (m .0) (h .1), fits-of-atMost extents cuts lower (h .2) (m .1) (z .1))
+fits-le-extent extents cuts fits = within-le extents cuts (fits-iff-within extents cuts .0 fits)

@@ -16,7 +16,8 @@ use Rattle.multipartition.specs.Cuts.{Fits, Even, cheapest}
 use Rattle.multipartition.specs.Plans.{Layout, layoutWith, between, inShape}
 use Rattle.multipartition.specs.Jobs.{InRange, Passed, PlanFor, firstOutside, planWith, planAnswer}
 use Rattle.multipartition.proofs.Answers.{answered-passed}
-use Rattle.multipartition.proofs.Cheapest.{cheapest-fits, cheapest-even, cheapest-none}
+use Rattle.multipartition.proofs.Cheapest.{cheapest-even, cheapest-none}
+use Rattle.multipartition.proofs.Fitting.{cheapest-fits}
 use Rattle.multipartition.proofs.Plans.{between-true-iff, layout-in-shape}
 
 -- ---- the checks

@@ -17,11 +17,11 @@ use Rattle.numbers.specs.Products.{product, without}
 use Rattle.numbers.proofs.Divides.{divides, quotient-pos}
 use Rattle.numbers.proofs.Gcd.{gcd-dvd-left, gcd-dvd-right, dvd-gcd, gcd-pos, gcd-mul-left, gauss, dvd-gcd-factor}
 use Rattle.numbers.proofs.Products.{product-without}
-use Rattle.multipartition.specs.Cuts.{Even, Fits, cheapest}
+use Rattle.multipartition.specs.Cuts.{Even, Within, cheapestWithin}
 use Rattle.multipartition.proofs.MixedRadix.{Positive, product-positive}
 use Rattle.multipartition.proofs.Order.{AtMost, atMost-refl, precedes-antisymm, precedes-of-atMost}
-use Rattle.multipartition.proofs.Cheapest.{cheapest-fits, cheapest-even, cheapest-precedes}
-use Rattle.multipartition.proofs.Fitting.{fits-positive, fits-of-atMost}
+use Rattle.multipartition.proofs.Cheapest.{cheapest-within, cheapest-even, cheapest-precedes}
+use Rattle.multipartition.proofs.Fitting.{within-positive, within-of-atMost}
 
 -- even cuts of which none can be lowered, not to 0, so that they stay even
 pub record Minimal (p : ℕ) (cuts : List ℕ) : Type 0 where
@@ -29,18 +29,18 @@ pub record Minimal (p : ℕ) (cuts : List ℕ) : Type 0 where
   pub positive : Positive cuts
   pub least : (lower : List ℕ) → AtMost lower cuts → Positive lower → Even p lower → lower ≡ cuts
 
--- lower cuts would fit, and would be chosen before
-pub cheapest-minimal : (p : ℕ) (extents weights cuts : List ℕ) → cheapest p extents weights ≡ some cuts → Minimal p cuts
-cheapest-minimal p extents weights cuts e = record {
-  even = cheapest-even p extents weights cuts e;
-  positive = fits-positive extents cuts fits;
+-- lower cuts would be within `most`, and would be chosen before
+pub cheapest-minimal : (p : ℕ) (most weights cuts : List ℕ) → cheapestWithin p most weights ≡ some cuts → Minimal p cuts
+cheapest-minimal p most weights cuts e = record {
+  even = cheapest-even p most weights cuts e;
+  positive = within-positive most cuts within;
   least = λ lower m z even.
       precedes-antisymm weights lower cuts (precedes-of-atMost weights lower cuts m)
-      (cheapest-precedes p extents weights cuts lower e (fits-of-atMost extents cuts lower fits m z) even);
+      (cheapest-precedes p most weights cuts lower e (within-of-atMost most cuts lower within m z) even);
 }
   where
-    fits : Fits extents cuts
-    fits = cheapest-fits p extents weights cuts e
+    within : Within most cuts
+    within = cheapest-within p most weights cuts e
 
 -- ---- one cut lowered
 
@@ -263,14 +263,14 @@ minimal-tiles-dvd p (b1 ∷ later) hp minimal =
 
 -- ---- the cheapest cuts
 
-module _ (p : ℕ) (extents weights cuts : List ℕ) (e : cheapest p extents weights ≡ some cuts) where
+module _ (p : ℕ) (most weights cuts : List ℕ) (e : cheapestWithin p most weights ≡ some cuts) where
   -- each divides p
   pub cut-dvd-processors : (k : ℕ) → k < length cuts → getD cuts k 0 ∣ p
-  cut-dvd-processors = minimal-cut-dvd p cuts (cheapest-minimal p extents weights cuts e)
+  cut-dvd-processors = minimal-cut-dvd p cuts (cheapest-minimal p most weights cuts e)
 
   -- the number of tiles divides p * p
   pub tiles-dvd-square : zero < p → product cuts ∣ p * p
-  tiles-dvd-square hp = minimal-tiles-dvd p cuts hp (cheapest-minimal p extents weights cuts e)
+  tiles-dvd-square hp = minimal-tiles-dvd p cuts hp (cheapest-minimal p most weights cuts e)
 
   -- for p "1 to 4,096" the cuts are at most 4,096, and the tiles "at most 16,777,216"
   pub cut-le : zero < p → p ≤ 4096 → (k : ℕ) → k < length cuts → getD cuts k 0 ≤ 4096

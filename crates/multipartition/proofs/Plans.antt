@@ -23,11 +23,11 @@ use Rattle.multipartition.specs.Plans.{Layout, layoutWith, tilesOf, betw
 use Rattle.multipartition.proofs.Tests.{and-true-iff, allBelow-true-iff}
 use Rattle.multipartition.proofs.MixedRadix.{Positive}
 use Rattle.multipartition.proofs.Tiles.{positive-of-product}
-use Rattle.multipartition.proofs.Cheapest.{cheapest-fits, cheapest-even}
+use Rattle.multipartition.proofs.Cheapest.{cheapest-even}
 use Rattle.multipartition.proofs.Moduli.{length-moduli, moduli-positive, moduli-product}
 use Rattle.multipartition.proofs.Matrix.{matrix-entry-below}
 use Rattle.multipartition.proofs.Neighbours.{neighbour-owns, neighbour-returns, neighbour-injective}
-use Rattle.multipartition.proofs.Fitting.{fits-length, fits-positive, fits-le-extent}
+use Rattle.multipartition.proofs.Fitting.{cheapest-fits, fits-length, fits-positive, fits-le-extent}
 use Rattle.multipartition.proofs.Minimal.{positive-at, cut-le, tiles-le}
 
 pub between-true-iff : (low high n : ℕ) → (between low high n ≡ true) ↔ ((low ≤ n) × (n ≤ high))

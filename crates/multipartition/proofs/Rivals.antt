@@ -1,5 +1,5 @@
 -- Against any rival (document 01, "The rival of demand 3"): a rival that gives every processor equally many tiles in every slab has even cuts,
--- whatever its owners, since the p equal shares of a slab make up the slab. So a rival is balanced only where even, fitting cuts exist, and
+-- whatever its owners, since the p equal shares of a slab make up the slab. So a rival is balanced only where such even cuts exist, and
 -- there the planner's owners are balanced themselves.
 use mathlib.Core.Path.{_≡_, refl, sym, _∙_, subst, subst⁻¹}
 use mathlib.Core.Logic.{_↔_}
@@ -9,15 +9,15 @@ use Prim.Native.Nat.{ℕ, zero, _-_, _*_, _≤_, _<_, _∣_}
 use native.Mathlib.Nat.{not-suc-le-zero, le-of-suc-le-suc, dvd-mul-right}
 use lib.ListN.{length, getD}
 use Rattle.numbers.specs.Products.{product, without}
-use Rattle.multipartition.specs.Cuts.{Even, Fits, costOf, cheapest}
+use Rattle.multipartition.specs.Cuts.{Even, Within, costOf, cheapestWithin}
 use Rattle.multipartition.specs.Owners.{ownerOf}
 use Rattle.multipartition.specs.Tiles.{Inside}
-use Rattle.multipartition.specs.Rivals.{Rival, held, Balanced}
-use Rattle.multipartition.proofs.Cheapest.{cheapest-fits, cheapest-even, cheapest-le, cheapest-none}
+use Rattle.multipartition.specs.Rivals.{RivalAmong, held, Balanced}
+use Rattle.multipartition.proofs.Cheapest.{cheapest-within, cheapest-even, cheapest-le, cheapest-none}
 use Rattle.multipartition.proofs.Moduli.{othersDown, othersDown-reverse}
 use Rattle.multipartition.proofs.GridSums.{placeDown-reverse, inside-reverse, equal-shares, held-slabTotal}
 use Rattle.multipartition.proofs.Owners.{owner-below, owners-balanced}
-use Rattle.multipartition.proofs.Fitting.{fits-positive}
+use Rattle.multipartition.proofs.Fitting.{within-positive}
 use Rattle.multipartition.proofs.Minimal.{positive-at}
 
 -- If all p processors own the same number of tiles of one slab of dimension k, p divides the product of the other cuts.
@@ -39,46 +39,46 @@ dvd-of-equal-shares p (b1 ∷ cuts) owner l below k s h m equal =
         (λ i1 x a w. below (i1 ∷ reverse x) (a, inside-reverse cuts x w))
         (λ q o. sym (held-slabTotal b1 cuts owner k s q (le-of-suc-le-suc h) m) ∙ equal q 0 o l)
 
-module _ (p : ℕ) (extents : List ℕ) (l : zero < p) where
+module _ (p : ℕ) (most : List ℕ) (l : zero < p) where
   -- a balanced rival has even cuts, whatever its owners
-  pub even-of-balanced : (rival : Rival p extents) → Balanced p (rival .cuts) (rival .owner) → Even p (rival .cuts)
+  pub even-of-balanced : (rival : RivalAmong p (Within most)) → Balanced p (rival .cuts) (rival .owner) → Even p (rival .cuts)
   unfolding Balanced
   even-of-balanced rival balanced k h =
-      let positive : zero < getD (rival .cuts) k 0 = positive-at (rival .cuts) (fits-positive extents (rival .cuts) (rival .fits)) k h in
+      let positive : zero < getD (rival .cuts) k 0 = positive-at (rival .cuts) (within-positive most (rival .cuts) (rival .member)) k h in
       dvd-of-equal-shares p (rival .cuts) (rival .owner) l (rival .below) k 0 h positive (balanced k 0 h positive)
 
-  -- the planner's owners on fitting cuts are a rival
-  unfoldable ours : (cuts : List ℕ) → Fits extents cuts → Rival p extents
-  ours cuts fits = record { cuts = cuts; fits = fits; owner = ownerOf p cuts; below = λ x w. owner-below p cuts x l }
+  -- the planner's owners on such cuts are a rival
+  unfoldable ours : (cuts : List ℕ) → Within most cuts → RivalAmong p (Within most)
+  ours cuts within = record { cuts = cuts; member = within; owner = ownerOf p cuts; below = λ x w. owner-below p cuts x l }
 
-  -- some rival is balanced just if there are even, fitting cuts
-  pub balanced-iff-even : ((rival : Rival p extents) × Balanced p (rival .cuts) (rival .owner)) ↔ ((cuts : List ℕ) × Fits extents cuts × Even p cuts)
+  -- some rival is balanced just if there are even cuts within `most`
+  pub balanced-iff-even : ((rival : RivalAmong p (Within most)) × Balanced p (rival .cuts) (rival .owner)) ↔ ((cuts : List ℕ) × Within most cuts × Even p cuts)
   unfolding ours
   balanced-iff-even = (there, back)
     where
-      there : (rival : Rival p extents) × Balanced p (rival .cuts) (rival .owner) → (cuts : List ℕ) × Fits extents cuts × Even p cuts
-      there (rival, balanced) = (rival .cuts, rival .fits, even-of-balanced rival balanced)
+      there : (rival : RivalAmong p (Within most)) × Balanced p (rival .cuts) (rival .owner) → (cuts : List ℕ) × Within most cuts × Even p cuts
+      there (rival, balanced) = (rival .cuts, rival .member, even-of-balanced rival balanced)
 
-      back : (cuts : List ℕ) × Fits extents cuts × Even p cuts → (rival : Rival p extents) × Balanced p (rival .cuts) (rival .owner)
-      back (cuts, fits, even) = (ours cuts fits, owners-balanced p cuts l even)
+      back : (cuts : List ℕ) × Within most cuts × Even p cuts → (rival : RivalAmong p (Within most)) × Balanced p (rival .cuts) (rival .owner)
+      back (cuts, within, even) = (ours cuts within, owners-balanced p cuts l even)
 
   -- and just if the planner answers
   pub balanced-iff-cheapest : (weights : List ℕ)
-      → ((rival : Rival p extents) × Balanced p (rival .cuts) (rival .owner)) ↔ ((cuts : List ℕ) × (cheapest p extents weights ≡ some cuts))
+      → ((rival : RivalAmong p (Within most)) × Balanced p (rival .cuts) (rival .owner)) ↔ ((cuts : List ℕ) × (cheapestWithin p most weights ≡ some cuts))
   balanced-iff-cheapest weights = (there, back)
     where
-      there : (rival : Rival p extents) × Balanced p (rival .cuts) (rival .owner) → (cuts : List ℕ) × (cheapest p extents weights ≡ some cuts)
-      there (rival, balanced) = go (cheapest p extents weights) refl
+      there : (rival : RivalAmong p (Within most)) × Balanced p (rival .cuts) (rival .owner) → (cuts : List ℕ) × (cheapestWithin p most weights ≡ some cuts)
+      there (rival, balanced) = go (cheapestWithin p most weights) refl
         where
-          go : (answer : Option (List ℕ)) → cheapest p extents weights ≡ answer → (cuts : List ℕ) × (cheapest p extents weights ≡ some cuts)
-          go none e = absurd (cheapest-none p extents weights (rival .cuts) e (rival .fits) (even-of-balanced rival balanced))
+          go : (answer : Option (List ℕ)) → cheapestWithin p most weights ≡ answer → (cuts : List ℕ) × (cheapestWithin p most weights ≡ some cuts)
+          go none e = absurd (cheapest-none p most weights (rival .cuts) e (rival .member) (even-of-balanced rival balanced))
           go (some cuts) e = (cuts, e)
 
-      back : (cuts : List ℕ) × (cheapest p extents weights ≡ some cuts) → (rival : Rival p extents) × Balanced p (rival .cuts) (rival .owner)
-      back (cuts, e) = balanced-iff-even .1 (cuts, cheapest-fits p extents weights cuts e, cheapest-even p extents weights cuts e)
+      back : (cuts : List ℕ) × (cheapestWithin p most weights ≡ some cuts) → (rival : RivalAmong p (Within most)) × Balanced p (rival .cuts) (rival .owner)
+      back (cuts, e) = balanced-iff-even .1 (cuts, cheapest-within p most weights cuts e, cheapest-even p most weights cuts e)
 
   -- what the planner answers costs no more than any balanced rival
-  pub cheapest-no-dearer : (weights cuts : List ℕ) → cheapest p extents weights ≡ some cuts
-      → (rival : Rival p extents) → Balanced p (rival .cuts) (rival .owner) → costOf weights cuts ≤ costOf weights (rival .cuts)
+  pub cheapest-no-dearer : (weights cuts : List ℕ) → cheapestWithin p most weights ≡ some cuts
+      → (rival : RivalAmong p (Within most)) → Balanced p (rival .cuts) (rival .owner) → costOf weights cuts ≤ costOf weights (rival .cuts)
   cheapest-no-dearer weights cuts e rival balanced =
-      cheapest-le p extents weights cuts (rival .cuts) e (rival .fits) (even-of-balanced rival balanced)
+      cheapest-le p most weights cuts (rival .cuts) e (rival .member) (even-of-balanced rival balanced)

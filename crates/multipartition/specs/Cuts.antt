@@ -18,17 +18,21 @@ Even p cuts = (k : ℕ) → k < length cuts → p ∣ product (without k cuts)
 unfoldable pub isEven : ℕ → List ℕ → Bool
 isEven p cuts = allBelow (length cuts) (λ k. eqb (product (without k cuts) % p) 0)
 
+-- cuts of which none is 0 or above its bound in `most`
+abbrev pub Within : List ℕ → List ℕ → Type 0
+Within [] [] = Unit {0}
+Within [] (b ∷ cuts) = ⊥
+Within (n ∷ most) [] = ⊥
+Within (n ∷ most) (b ∷ cuts) = (1 ≤ b) × (b ≤ n) × Within most cuts
+
+-- all of them
+unfoldable pub cutsWithin : List ℕ → List (List ℕ)
+cutsWithin [] = [] ∷ []
+cutsWithin (n ∷ most) = startingWith 1 n (cutsWithin most)
+
 -- "They fit if 1 ≤ bk ≤ nk for every k."
 abbrev pub Fits : List ℕ → List ℕ → Type 0
-Fits [] [] = Unit {0}
-Fits [] (b ∷ cuts) = ⊥
-Fits (n ∷ extents) [] = ⊥
-Fits (n ∷ extents) (b ∷ cuts) = (1 ≤ b) × (b ≤ n) × Fits extents cuts
-
--- all cuts that fit
-unfoldable pub fitting : List ℕ → List (List ℕ)
-fitting [] = [] ∷ []
-fitting (n ∷ extents) = startingWith 1 n (fitting extents)
+Fits extents = Within extents
 
 -- "The cost is b1·w1 + ... + bd·wd."
 abbrev pub costOf : List ℕ → List ℕ → ℕ
@@ -67,6 +71,10 @@ unfoldable pub chosen : List ℕ → List (List ℕ) → Option (List ℕ)
 chosen weights [] = none
 chosen weights (u ∷ others) = preferred weights u (chosen weights others)
 
+-- the even cuts within `most` that are chosen
+unfoldable pub cheapestWithin : ℕ → List ℕ → List ℕ → Option (List ℕ)
+cheapestWithin p most weights = chosen weights (those (isEven p) (cutsWithin most))
+
 -- "The planner answers with the even, fitting cuts of least cost .. The definition ranges over all cut vectors."
-unfoldable pub cheapest : ℕ → List ℕ → List ℕ → Option (List ℕ)
-cheapest p extents weights = chosen weights (those (isEven p) (fitting extents))
+abbrev pub cheapest : ℕ → List ℕ → List ℕ → Option (List ℕ)
+cheapest p extents weights = cheapestWithin p extents weights

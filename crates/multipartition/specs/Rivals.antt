@@ -10,12 +10,16 @@ use Rattle.multipartition.specs.Lists.{count}
 use Rattle.multipartition.specs.Cuts.{Fits}
 use Rattle.multipartition.specs.Tiles.{Inside, positions}
 
--- "A rival is any fitting cuts together with one owner, 0 to p - 1, for each tile position. The owners may follow any rule or none."
-pub record Rival (p : ℕ) (extents : List ℕ) : Type 0 where
+-- cuts of a class "together with one owner, 0 to p - 1, for each tile position. The owners may follow any rule or none"
+pub record RivalAmong (p : ℕ) (Class : List ℕ → Type 0) : Type 0 where
   pub cuts : List ℕ
-  pub fits : Fits extents cuts
+  pub member : Class cuts
   pub owner : List ℕ → ℕ
   pub below : (position : List ℕ) → Inside cuts position → owner position < p
+
+-- "A rival is any fitting cuts" with such owners.
+abbrev pub Rival : ℕ → List ℕ → Type 0
+Rival p extents = RivalAmong p (Fits extents)
 
 -- how many tiles of slab s of dimension k the processor q owns
 unfoldable pub held : List ℕ → (List ℕ → ℕ) → ℕ → ℕ → ℕ → ℕ

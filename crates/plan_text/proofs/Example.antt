@@ -7,7 +7,7 @@ use Rattle.numerals.specs.Decimal.{decimal, decimalWithin}
 use Rattle.numbers.specs.Gcd.{gcd}
 use Rattle.numbers.specs.Sums.{same}
 use Rattle.multipartition.specs.Lists.{allBelow, listOf, startingWith, those}
-use Rattle.multipartition.specs.Cuts.{isEven, fitting, notLater, precedes, preferred, chosen, cheapest}
+use Rattle.multipartition.specs.Cuts.{isEven, cutsWithin, notLater, precedes, preferred, chosen, cheapestWithin}
 use Rattle.multipartition.specs.Moduli.{moduliOf}
 use Rattle.multipartition.specs.Matrix.{remainder, finish, finishedRows, rowsOf, remaindersOf, matrixOf}
 use Rattle.multipartition.specs.MixedRadix.{numberFrom, digitsOf}
@@ -30,5 +30,5 @@ exampleText =
     ++ bytesOf "up 3 1 0 3 2\n"
 
 pub example-printed : answerText (planAnswer 4 3 (8 ∷ 8 ∷ 8 ∷ []) (1 ∷ 1 ∷ 1 ∷ [])) ≡ exampleText
-unfolding decimal decimalWithin gcd same allBelow listOf startingWith those isEven fitting notLater precedes preferred chosen cheapest moduliOf remainder finish finishedRows rowsOf remaindersOf matrixOf numberFrom digitsOf columnOf turn turned nextOwner neighbourAt firstOutside planWith planAnswer joined processors upLine planText answerText
+unfolding decimal decimalWithin gcd same allBelow listOf startingWith those isEven cutsWithin notLater precedes preferred chosen cheapestWithin moduliOf remainder finish finishedRows rowsOf remaindersOf matrixOf numberFrom digitsOf columnOf turn turned nextOwner neighbourAt firstOutside planWith planAnswer joined processors upLine planText answerText
 example-printed = refl

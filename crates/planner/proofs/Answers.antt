@@ -9,8 +9,7 @@ use Rattle.multipartition.specs.Answers.{Answer, answered, refused, Check, chec
 use Rattle.multipartition.specs.Cuts.{cheapest}
 use Rattle.multipartition.specs.Plans.{Layout}
 use Rattle.multipartition.specs.Jobs.{jobChecks, planWith, planAnswer}
-use Rattle.multipartition.proofs.Cheapest.{cheapest-fits}
-use Rattle.multipartition.proofs.Fitting.{fits-length}
+use Rattle.multipartition.proofs.Fitting.{cheapest-fits, fits-length}
 use Rattle.multipartition.proofs.Jobs.{plan-answered}
 use Rattle.layout.specs.Sized.{Sized}
 use Rattle.layout.proofs.Plans.{layout-with-sized}

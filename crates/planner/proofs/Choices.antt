@@ -11,8 +11,7 @@ use Rattle.multipartition.specs.Answers.{refused}
 use Rattle.multipartition.specs.Cuts.{costOf, cheapest}
 use Rattle.multipartition.specs.Plans.{layoutWith}
 use Rattle.multipartition.specs.Jobs.{planWith}
-use Rattle.multipartition.proofs.Cheapest.{cheapest-fits}
-use Rattle.multipartition.proofs.Fitting.{fits-length}
+use Rattle.multipartition.proofs.Fitting.{cheapest-fits, fits-length}
 use Rattle.layout.specs.declared.Plan.{Plan}
 use Rattle.layout.specs.Plans.{five, planOf}
 use Rattle.matrix.proofs.Padding.{at-padded, is-five}
@@ -49,7 +48,7 @@ module _ (p : ℕ) (extents weights : List ℕ) (cost : ℕ) (cuts : List ℕ) w
           many = fits-length extents u (cheapest-fits p extents weights u e)
 
           few : length u ≤ 5
-          few = omega (arith, many, job .range .d-high)
+          few = omega (arith, many, job .d-high)
 
           front : take (length extents) cuts ≡ u
           front = ap (take (length extents)) h ∙ take-at u (replicate (5 - length u) 0) (length extents) many

@@ -21,9 +21,9 @@ use Rattle.multipartition.specs.Plans.{Layout, layoutWith, between, inShape}
 use Rattle.multipartition.specs.Questions.{ownerAnswer, neighbourAnswer}
 use Rattle.multipartition.specs.Rivals.{Rival, held, Balanced, Face}
 use Rattle.multipartition.specs.Tiles.{Inside, isInside, oneStepOn}
-use Rattle.multipartition.proofs.Cheapest.{cheapest-fits, cheapest-even}
+use Rattle.multipartition.proofs.Cheapest.{cheapest-even}
 use Rattle.multipartition.proofs.Faces.{faces-differ}
-use Rattle.multipartition.proofs.Fitting.{fits-length}
+use Rattle.multipartition.proofs.Fitting.{cheapest-fits, fits-length}
 use Rattle.multipartition.proofs.GridSums.{total, total-ext, held-total}
 use Rattle.multipartition.proofs.Jobs.{plan-answered, plan-in-shape, plan-of-passed}
 use Rattle.multipartition.proofs.Minimal.{cheapest-minimal}

@@ -20,7 +20,7 @@ plan-with-requires : tie.Need-plan-with-requires
 plan-with-requires c κs =
     let job = c .before .before .before .before .before .before .pre in
     let found = cut _ _ _ _ _ _ (not-false _ (c .before .if1 .left)) job (c .before .before .before .cheapest-cuts .ensures) in
-    ((job .range .p-low, job .range .p-high, job .range .d-high, omega (arith, job .range .d-high, job .weights-too)), (found .zeros, found .summed))
+    ((job .p-low, job .p-high, job .d-high, omega (arith, job .d-high, job .weights-too)), (found .zeros, found .summed))
 
 returns-2 : tie.Need-returns-2
 returns-2 c =

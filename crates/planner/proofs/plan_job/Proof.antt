@@ -61,7 +61,8 @@ answer-requires c κs =
     let job =
     passed (start .args .p) (start .args .d) (start .args .extents .now) (start .args .weights .now) (c .before .before .before .before .if1 .left)
     (c .before .before .before .if2 .left) (c .before .before .if3 .left) (sym (c .before .first-outside .ensures) ∙ c .if4 .left) in
-    record { range = job .range; weights-too = job .weights-many ∙ sym (job .extents-many) }
+    let range = job .range in
+    record { p-low = range .p-low; p-high = range .p-high; d-low = range .d-low; d-high = range .d-high; weights-too = job .weights-many ∙ sym (job .extents-many) }
 
 returns-5 : tie.Need-returns-5
 returns-5 c =
