@@ -1,15 +1,16 @@
 -- The lists of a plan's layout, read by places, counted from 0, in the plan's own arrays.
 use mathlib.Core.Path.{_≡_, refl, ap, _∙_}
 use mathlib.Core.List.{List, []}
-use Prim.Native.Nat.{ℕ, zero, suc, _+_, _*_, _<_}
+use Prim.Native.Nat.{ℕ, zero, suc, _+_, _*_, _≤_, _<_}
 use native.Mathlib.Nat.{zero-add}
 use native.Mathlib.Omega.{arith}
-use lib.ListN.{length, getD, take, drop}
+use lib.ListN.{length, getD, take, drop, length-drop}
 use lib.Seq.{getD-take, getD-drop, length-take-le}
 use Rattle.multipartition.specs.Plans.{entryAt}
 use Rattle.layout.specs.declared.Plan.{Plan}
 use Rattle.layout.specs.Plans.{rowsFrom, layoutOf}
 use Rattle.layout.specs.Shaped.{entryOf, Shaped}
+use Rattle.layout.specs.Sized.{Sized, Arrays}
 
 pub length-rows : (d i n : ℕ) (matrix : List ℕ) → length (rowsFrom d i n matrix) ≡ n
 unfolding rowsFrom
@@ -34,6 +35,20 @@ pub entry-at : (d : ℕ) (matrix : List ℕ) (i j : ℕ) → i < d → j < d →
 entry-at d matrix i j hi hj = rw (row-at d matrix i hi, getD-take d (drop (i * 5) matrix) j 0 hj) (getD-drop (i * 5) matrix j 0)
 
 -- ---- of a plan
+
+-- every plan by value has a layout of d numbers a list, which "in shape" does not say of a layout
+pub layout-sized : (plan : Plan) → Arrays plan → plan .d ≤ 5 → Sized (layoutOf plan)
+unfolding layoutOf
+layout-sized plan a few = record {
+  few = few;
+  extents-length = length-take-le (plan .d) (plan .extents) (omega (arith, a .extents-places));
+  weights-length = length-take-le (plan .d) (plan .weights) (omega (arith, a .weights-places));
+  cuts-length = length-take-le (plan .d) (plan .cuts) (omega (arith, a .cuts-places));
+  moduli-length = length-take-le (plan .d) (plan .moduli) (omega (arith, a .moduli-places));
+  matrix-length = length-rows (plan .d) 0 (plan .d) (plan .matrix);
+  row-length = λ i l. rw (row-at (plan .d) (plan .matrix) i l)
+      (length-take-le (plan .d) (drop (i * 5) (plan .matrix)) (omega (arith, a .matrix-places, length-drop (i * 5) (plan .matrix))));
+}
 
 pub extents-length : (plan : Plan) → Shaped plan → length (layoutOf plan .extents) ≡ plan .d
 unfolding layoutOf

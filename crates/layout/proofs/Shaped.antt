@@ -3,158 +3,113 @@
 use mathlib.Core.Path.{_≡_, refl, sym, _∙_}
 use mathlib.Core.Bool.{Bool, true, false, not, _&&_}
 use mathlib.Core.List.{List}
+use mathlib.Core.Logic.{_↔_}
 use Prim.Native.Nat.{ℕ, _+_, _*_, _^_, _≤_, _<_}
 use native.Mathlib.Nat.{le-trans}
 use native.Mathlib.Omega.{arith}
 use lib.Dec.{leb, ltb, eqb}
 use lib.ListN.{length, getD, take}
-use lib.Seq.{getD-take}
-use borrow.Author.Tests.{not-true, not-false, leb-true, ltb-true, eqb-true, le-leb, lt-ltb, eq-eqb}
+use borrow.Author.Tests.{not-true, not-false, leb-true, eqb-true, le-leb, eq-eqb}
 use Rattle.numbers.specs.Products.{product}
 use Rattle.multipartition.specs.Lists.{allBelow}
-use Rattle.multipartition.specs.Plans.{between, dimensionOk, entryAt, rowOk, inShape}
-use Rattle.multipartition.proofs.Plans.{between-true-iff}
+use Rattle.multipartition.specs.Plans.{between, dimensionOk, inShape, InShape}
+use Rattle.multipartition.proofs.Plans.{dimension-iff, in-shape-iff}
+use Rattle.multipartition.proofs.Tests.{and-iff, all-iff, ltb-iff, between-true-iff}
 use Rattle.layout.specs.declared.Plan.{Plan}
-use Rattle.layout.specs.Plans.{layoutOf, rowsFrom}
+use Rattle.layout.specs.Plans.{layoutOf}
 use Rattle.layout.specs.Shaped.{entryOf, rowFits, placeFits, Ranges, Factors, Shaped}
-use Rattle.layout.proofs.Lists.{both, le-length, all-none, all-add-one, all-at, all-of, product-next, product-fits, factor-le}
-use Rattle.layout.proofs.Places.{entry-at}
+use Rattle.layout.proofs.Lists.{both, le-length, all-none, all-add-one, all-at, product-next, product-fits, factor-le}
+use Rattle.layout.proofs.Places.{entry-at, extent-at, cut-at, modulus-at}
 
-pub between-true : (low high n : ℕ) → between low high n ≡ true → (low ≤ n) × (n ≤ high)
-between-true low high n = between-true-iff low high n .0
+-- ---- a place: the checks of its dimension and of its row
 
-pub between-of : (low high n : ℕ) → low ≤ n → n ≤ high → between low high n ≡ true
-between-of low high n l h = between-true-iff low high n .1 (l, h)
+abbrev Place : ℕ → List ℕ → List ℕ → List ℕ → List ℕ → ℕ → Type 0
+Place d extents cuts moduli matrix k =
+    ((((1 ≤ getD extents k 0) × (getD extents k 0 ≤ 1000000)) × ((1 ≤ getD cuts k 0) × (getD cuts k 0 ≤ getD extents k 0))) × (getD cuts k 0 ≤ 4096))
+    × (((1 ≤ getD moduli k 0) × (getD moduli k 0 ≤ 4096)) × ((j : ℕ) → j < d → entryOf matrix k j < getD moduli k 0))
 
--- ---- a dimension
+place-iff : (d : ℕ) (extents cuts moduli matrix : List ℕ) (k : ℕ) → (placeFits d extents cuts moduli matrix k ≡ true) ↔ Place d extents cuts moduli matrix k
+place-iff d extents cuts moduli matrix k =
+    and-iff (dimensionOk extents cuts k) (rowFits d moduli matrix k) (dimension-iff extents cuts k)
+    (and-iff (between 1 4096 m) (allBelow d (λ j. ltb (entryOf matrix k j) m)) (between-true-iff 1 4096 m)
+    (all-iff d (λ j. ltb (entryOf matrix k j) m) (λ j. ltb-iff (entryOf matrix k j) m)))
+  where
+    m : ℕ
+    m = getD moduli k 0
 
--- an extent n and its cut b
-pub record Dimension (n b : ℕ) : Type 0 where
-  pub extent-low : 1 ≤ n
-  pub extent-high : n ≤ 1000000
-  pub cut-low : 1 ≤ b
-  pub cut-fits : b ≤ n
-  pub cut-high : b ≤ 4096
+-- ---- the plan: its layout's facts are those of its own places
 
-dimension-true : (n b : ℕ) → (between 1 1000000 n && between 1 n b && leb b 4096) ≡ true → Dimension n b
-dimension-true n b e =
-    let t = both (between 1 1000000 n && between 1 n b) (leb b 4096) e in
-    let u = both (between 1 1000000 n) (between 1 n b) (t .0) in
-    let extent = between-true 1 1000000 n (u .0) in
-    let cut = between-true 1 n b (u .1) in
-    record { extent-low = extent .0; extent-high = extent .1; cut-low = cut .0; cut-fits = cut .1; cut-high = leb-true b 4096 (t .1) }
+module _ (plan : Plan) where
+  shaped-of : InShape (layoutOf plan) → Shaped plan
+  unfolding layoutOf
+  shaped-of s =
+      let moduli-long : plan .d ≤ length (plan .moduli) = le-length (plan .d) (plan .moduli) modulus in
+      record {
+        d-low = s .d-range .0;
+        d-high = s .d-range .1;
+        p-low = s .p-range .0;
+        p-high = s .p-range .1;
+        extent-low = λ k l. extent k l .0;
+        extent-high = λ k l. extent k l .1;
+        cut-low = λ k l. cut k l .0;
+        cut-high = λ k l. cut k l .2;
+        cut-fits = λ k l. cut k l .1;
+        tiles-high = s .tiles-high;
+        modulus-low = modulus;
+        modulus-high = λ i l. rw (s .moduli-product) at (factor-le (plan .moduli) (plan .d) moduli-long modulus i l);
+        entry-below = λ i j li lj.
+            rw (entry-at (plan .d) (plan .matrix) i j li lj, modulus-at plan i li) at (s .entry-below i j li lj);
+        moduli-product = s .moduli-product;
+        extents-long = le-length (plan .d) (plan .extents) (λ k l. extent k l .0);
+        cuts-long = le-length (plan .d) (plan .cuts) (λ k l. cut k l .0);
+        moduli-long = moduli-long;
+      }
+    where
+      extent : (k : ℕ) → k < plan .d → (1 ≤ getD (plan .extents) k 0) × (getD (plan .extents) k 0 ≤ 1000000)
+      extent k l = rw (extent-at plan k l) at (s .extent-range k l)
 
-dimension-of : (n b : ℕ) → Dimension n b → (between 1 1000000 n && between 1 n b && leb b 4096) ≡ true
-dimension-of n b h = rw (between-of 1 1000000 n (h .extent-low) (h .extent-high), between-of 1 n b (h .cut-low) (h .cut-fits), le-leb b 4096 (h .cut-high))
+      cut : (k : ℕ) → k < plan .d → (1 ≤ getD (plan .cuts) k 0) × (getD (plan .cuts) k 0 ≤ getD (plan .extents) k 0) × (getD (plan .cuts) k 0 ≤ 4096)
+      cut k l = rw (extent-at plan k l, cut-at plan k l) at (s .cut-range k l)
 
--- ---- a row
+      modulus : (i : ℕ) → i < plan .d → 1 ≤ getD (plan .moduli) i 0
+      modulus i l = rw (modulus-at plan i l) at (s .modulus-low i l)
 
-pub record Modular (d : ℕ) (moduli matrix : List ℕ) (i : ℕ) : Type 0 where
-  pub modulus-low : 1 ≤ getD moduli i 0
-  pub entry-below : (j : ℕ) → j < d → entryOf matrix i j < getD moduli i 0
+  in-shape-of-places : Ranges (plan .d) (plan .p)
+      → ((k : ℕ) → k < plan .d → placeFits (plan .d) (plan .extents) (plan .cuts) (plan .moduli) (plan .matrix) k ≡ true)
+      → product (take (plan .d) (plan .cuts)) ≤ 16777216 → product (take (plan .d) (plan .moduli)) ≡ plan .p → InShape (layoutOf plan)
+  unfolding layoutOf
+  in-shape-of-places ranges fits tiles moduli =
+      record {
+        d-range = (ranges .d-low, ranges .d-high);
+        p-range = (ranges .p-low, ranges .p-high);
+        extent-range = λ k l. rw (extent-at plan k l) (place k l .0 .0 .0);
+        cut-range = λ k l. rw (extent-at plan k l, cut-at plan k l) (place k l .0 .0 .1 .0, place k l .0 .0 .1 .1, place k l .0 .1);
+        tiles-high = tiles;
+        modulus-low = λ i l. rw (modulus-at plan i l) (place i l .1 .0 .0);
+        moduli-product = moduli;
+        entry-below = λ i j li lj. rw (entry-at (plan .d) (plan .matrix) i j li lj, modulus-at plan i li) (place i li .1 .1 j lj);
+      }
+    where
+      place : (k : ℕ) → k < plan .d → Place (plan .d) (plan .extents) (plan .cuts) (plan .moduli) (plan .matrix) k
+      place k l = place-iff (plan .d) (plan .extents) (plan .cuts) (plan .moduli) (plan .matrix) k .0 (fits k l)
 
-row-true : (d : ℕ) (moduli matrix : List ℕ) (i : ℕ) → i < d → rowOk d (take d moduli) (rowsFrom d 0 d matrix) i ≡ true → Modular d moduli matrix i
-row-true d moduli matrix i l e =
-    let m : ℕ = getD moduli i 0 in
-    let t = both (leb 1 m) (allBelow d (λ j. ltb (entryAt (rowsFrom d 0 d matrix) i j) m)) (rw (getD-take d moduli i 0 l) at e) in
-    record {
-      modulus-low = leb-true 1 m (t .0);
-      entry-below = λ j h. ltb-true _ _ (rw (entry-at d matrix i j l h) at (all-at d _ (t .1) j h));
-    }
+  pub shaped : inShape (layoutOf plan) ≡ true → Shaped plan
+  shaped e = shaped-of (in-shape-iff (layoutOf plan) .0 e)
 
-row-of : (d : ℕ) (moduli matrix : List ℕ) (i : ℕ) → i < d → Modular d moduli matrix i → rowOk d (take d moduli) (rowsFrom d 0 d matrix) i ≡ true
-row-of d moduli matrix i l h =
-    let below : allBelow d (λ j. ltb (entryAt (rowsFrom d 0 d matrix) i j) (getD moduli i 0)) ≡ true
-    = all-of d _ (λ j m. rw (entry-at d matrix i j l m) (lt-ltb _ _ (h .entry-below j m))) in
-    rw (getD-take d moduli i 0 l, le-leb 1 (getD moduli i 0) (h .modulus-low)) below
+  -- ---- the checks on a shaped plan
 
--- ---- the plan
+  pub place-of-shaped : Shaped plan → (k : ℕ) → k < plan .d
+      → placeFits (plan .d) (plan .extents) (plan .cuts) (plan .moduli) (plan .matrix) k ≡ true
+  place-of-shaped s k l =
+      place-iff (plan .d) (plan .extents) (plan .cuts) (plan .moduli) (plan .matrix) k .1 (
+        (((s .extent-low k l, s .extent-high k l), (s .cut-low k l, s .cut-fits k l)), s .cut-high k l),
+        ((s .modulus-low k l, le-trans (s .modulus-high k l) (s .p-high)), λ j m. s .entry-below k j l m),
+      )
 
-pub shaped-of : (plan : Plan) → Ranges (plan .d) (plan .p)
-    → ((k : ℕ) → k < plan .d → Dimension (getD (plan .extents) k 0) (getD (plan .cuts) k 0))
-    → ((i : ℕ) → i < plan .d → Modular (plan .d) (plan .moduli) (plan .matrix) i)
-    → product (take (plan .d) (plan .cuts)) ≤ 16777216 → product (take (plan .d) (plan .moduli)) ≡ plan .p → Shaped plan
-shaped-of plan ranges dimension row tiles moduli =
-    let moduli-long : plan .d ≤ length (plan .moduli) = le-length (plan .d) (plan .moduli) (λ i l. row i l .modulus-low) in
-    record {
-      d-low = ranges .d-low;
-      d-high = ranges .d-high;
-      p-low = ranges .p-low;
-      p-high = ranges .p-high;
-      extent-low = λ k l. dimension k l .extent-low;
-      extent-high = λ k l. dimension k l .extent-high;
-      cut-low = λ k l. dimension k l .cut-low;
-      cut-high = λ k l. dimension k l .cut-high;
-      cut-fits = λ k l. dimension k l .cut-fits;
-      tiles-high = tiles;
-      modulus-low = λ i l. row i l .modulus-low;
-      modulus-high = λ i l. rw moduli at (factor-le (plan .moduli) (plan .d) moduli-long (λ k h. row k h .modulus-low) i l);
-      entry-below = λ i j li lj. row i li .entry-below j lj;
-      moduli-product = moduli;
-      extents-long = le-length (plan .d) (plan .extents) (λ k l. dimension k l .extent-low);
-      cuts-long = le-length (plan .d) (plan .cuts) (λ k l. dimension k l .cut-low);
-      moduli-long = moduli-long;
-    }
-
-pub shaped : (plan : Plan) → inShape (layoutOf plan) ≡ true → Shaped plan
-unfolding inShape layoutOf
-shaped plan e =
-    let d = plan .d in
-    let D : Bool = between 2 5 d in
-    let P : Bool = between 1 4096 (plan .p) in
-    let C : Bool = allBelow d (dimensionOk (take d (plan .extents)) (take d (plan .cuts))) in
-    let T : Bool = leb (product (take d (plan .cuts))) 16777216 in
-    let R : Bool = allBelow d (rowOk d (take d (plan .moduli)) (rowsFrom d 0 d (plan .matrix))) in
-    let M : Bool = eqb (product (take d (plan .moduli))) (plan .p) in
-    let m = both (D && P && C && T && R) M e in
-    let r = both (D && P && C && T) R (m .0) in
-    let t = both (D && P && C) T (r .0) in
-    let c = both (D && P) C (t .0) in
-    let p = both D P (c .0) in
-    let d-range = between-true 2 5 d (p .0) in
-    let p-range = between-true 1 4096 (plan .p) (p .1) in
-    shaped-of plan (record { d-low = d-range .0; d-high = d-range .1; p-low = p-range .0; p-high = p-range .1 })
-    (λ k l. dimension-true _ _ (rw (getD-take d (plan .extents) k 0 l, getD-take d (plan .cuts) k 0 l) at (all-at d _ (c .1) k l)))
-    (λ i l. row-true d (plan .moduli) (plan .matrix) i l (all-at d _ (r .1) i l))
-    (leb-true _ _ (t .1))
-    (eqb-true _ _ (m .1))
-
--- ---- the checks on a shaped plan
-
-dimension-at : (plan : Plan) → Shaped plan → (k : ℕ) → k < plan .d → Dimension (getD (plan .extents) k 0) (getD (plan .cuts) k 0)
-dimension-at plan s k l =
-    record {
-      extent-low = s .extent-low k l;
-      extent-high = s .extent-high k l;
-      cut-low = s .cut-low k l;
-      cut-fits = s .cut-fits k l;
-      cut-high = s .cut-high k l;
-    }
-
-pub place-of-shaped : (plan : Plan) → Shaped plan → (k : ℕ) → k < plan .d
-    → placeFits (plan .d) (plan .extents) (plan .cuts) (plan .moduli) (plan .matrix) k ≡ true
-place-of-shaped plan s k l =
-    let below : allBelow (plan .d) (λ j. ltb (entryOf (plan .matrix) k j) (getD (plan .moduli) k 0)) ≡ true
-    = all-of (plan .d) _ (λ j m. lt-ltb _ _ (s .entry-below k j l m)) in
-    rw (
-      dimension-of (getD (plan .extents) k 0) (getD (plan .cuts) k 0) (dimension-at plan s k l),
-      between-of 1 4096 (getD (plan .moduli) k 0) (s .modulus-low k l) (le-trans (s .modulus-high k l) (s .p-high)),
-    )
-    below
-
-pub in-shape-of-shaped : (plan : Plan) → Shaped plan → inShape (layoutOf plan) ≡ true
-unfolding inShape layoutOf
-in-shape-of-shaped plan s =
-    let d = plan .d in
-    let cuts : allBelow d (dimensionOk (take d (plan .extents)) (take d (plan .cuts))) ≡ true
-    = all-of d _
-    (λ k l. rw (getD-take d (plan .extents) k 0 l, getD-take d (plan .cuts) k 0 l) (dimension-of _ _ (dimension-at plan s k l))) in
-    let rows : allBelow d (rowOk d (take d (plan .moduli)) (rowsFrom d 0 d (plan .matrix))) ≡ true
-    = all-of d _
-    (λ i l. row-of d (plan .moduli) (plan .matrix) i l (record { modulus-low = s .modulus-low i l; entry-below = λ j m. s .entry-below i j l m })) in
-    rw
-    (between-of 2 5 d (s .d-low) (s .d-high), between-of 1 4096 (plan .p) (s .p-low) (s .p-high), cuts, le-leb _ _ (s .tiles-high), rows)
-    (eq-eqb _ _ (s .moduli-product))
+  pub in-shape-of-shaped : Shaped plan → inShape (layoutOf plan) ≡ true
+  in-shape-of-shaped s =
+      in-shape-iff (layoutOf plan) .1
+      (in-shape-of-places (record { d-low = s .d-low; d-high = s .d-high; p-low = s .p-low; p-high = s .p-high }) (place-of-shaped s) (s .tiles-high) (s .moduli-product))
 
 -- a test that tells whether the plan is shaped tells whether it is in shape
 pub in-shape-if : (plan : Plan) (b : Bool) → (b ≡ true → Shaped plan) → (Shaped plan → b ≡ true) → b ≡ inShape (layoutOf plan)
@@ -176,35 +131,21 @@ failed-check plan b t e h n =
 -- ---- what the loop over the dimensions shows
 
 -- the first n dimensions have passed
-module _ (d : ℕ) (extents cuts moduli matrix : List ℕ) (n : ℕ) (h : allBelow n (placeFits d extents cuts moduli matrix) ≡ true) where
-  place : (k : ℕ) → k < n → (dimensionOk extents cuts k ≡ true) × (rowFits d moduli matrix k ≡ true)
-  place k l = both (dimensionOk extents cuts k) (rowFits d moduli matrix k) (all-at n _ h k l)
-
-  row : (i : ℕ) → i < n
-      → (between 1 4096 (getD moduli i 0) ≡ true) × (allBelow d (λ j. ltb (entryOf matrix i j) (getD moduli i 0)) ≡ true)
-  row i l =
-      both (between 1 4096 (getD moduli i 0)) (allBelow d (λ j. ltb (entryOf matrix i j) (getD moduli i 0))) (place i l .1)
-
-  place-dimension : (k : ℕ) → k < n → Dimension (getD extents k 0) (getD cuts k 0)
-  place-dimension k l = dimension-true _ _ (place k l .0)
-
-  place-row : (i : ℕ) → i < n → Modular d moduli matrix i
-  place-row i l =
-      record {
-        modulus-low = between-true 1 4096 (getD moduli i 0) (row i l .0) .0;
-        entry-below = λ j m. ltb-true _ _ (all-at d (λ j. ltb (entryOf matrix i j) (getD moduli i 0)) (row i l .1) j m);
-      }
-
-  cut-factors : n ≤ 5 → Factors n cuts
-  cut-factors few =
-      record { few = few; low = λ k l. place-dimension k l .cut-low; high = λ k l. place-dimension k l .cut-high }
-
-  modulus-factors : n ≤ 5 → Factors n moduli
-  modulus-factors few =
+module _ (d : ℕ) (extents cuts moduli matrix : List ℕ) (n : ℕ) (few : n ≤ 5) (h : allBelow n (placeFits d extents cuts moduli matrix) ≡ true) where
+  cut-factors : Factors n cuts
+  cut-factors =
       record {
         few = few;
-        low = λ i l. place-row i l .modulus-low;
-        high = λ i l. between-true 1 4096 (getD moduli i 0) (row i l .0) .1;
+        low = λ k l. place-iff d extents cuts moduli matrix k .0 (all-at n _ h k l) .0 .0 .1 .0;
+        high = λ k l. place-iff d extents cuts moduli matrix k .0 (all-at n _ h k l) .0 .1;
+      }
+
+  modulus-factors : Factors n moduli
+  modulus-factors =
+      record {
+        few = few;
+        low = λ i l. place-iff d extents cuts moduli matrix i .0 (all-at n _ h i l) .1 .0 .0;
+        high = λ i l. place-iff d extents cuts moduli matrix i .0 (all-at n _ h i l) .1 .0 .1;
       }
 
 -- the loop's state at dimension k: those before have passed, and the products are theirs
@@ -225,10 +166,10 @@ module _ (d : ℕ) (extents cuts moduli matrix : List ℕ) (k tiles processors :
   within = omega arith
 
   cuts-so-far : Factors (k + 1) cuts
-  cuts-so-far = cut-factors d extents cuts moduli matrix (k + 1) places-next (omega arith)
+  cuts-so-far = cut-factors d extents cuts moduli matrix (k + 1) (omega arith) places-next
 
   moduli-so-far : Factors (k + 1) moduli
-  moduli-so-far = modulus-factors d extents cuts moduli matrix (k + 1) places-next (omega arith)
+  moduli-so-far = modulus-factors d extents cuts moduli matrix (k + 1) (omega arith) places-next
 
   pub tiles-fit : tiles * getD cuts k 0 < 2 ^ 64
   tiles-fit = rw (h .tiles-is) (product-fits cuts (k + 1) k cuts-so-far within)
@@ -256,9 +197,6 @@ passed-all plan ranges k tiles processors low high h =
     in-shape-if plan (leb tiles 16777216 && eqb processors (plan .p))
     (λ e.
     let t = both (leb tiles 16777216) (eqb processors (plan .p)) e in
-    shaped-of plan ranges
-    (place-dimension (plan .d) (plan .extents) (plan .cuts) (plan .moduli) (plan .matrix) (plan .d) places)
-    (place-row (plan .d) (plan .extents) (plan .cuts) (plan .moduli) (plan .matrix) (plan .d) places)
-    (rw tiles-is at (leb-true tiles 16777216 (t .0)))
-    (sym processors-is ∙ eqb-true _ _ (t .1)))
+    shaped plan (in-shape-iff (layoutOf plan) .1
+    (in-shape-of-places plan ranges (all-at (plan .d) _ places) (rw tiles-is at (leb-true tiles 16777216 (t .0))) (sym processors-is ∙ eqb-true _ _ (t .1)))))
     (λ s. rw (le-leb tiles 16777216 (rw (← tiles-is) at (s .tiles-high))) (eq-eqb _ _ (processors-is ∙ s .moduli-product)))

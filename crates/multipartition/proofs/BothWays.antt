@@ -1,27 +1,25 @@
 -- The questions agree both ways: tile numbers and positions, steps and steps back, elements and slabs, owners and chains, said of what the calls
 -- answer about any plan.
-use mathlib.Core.Path.{_≡_, refl, sym, ap, _∙_, subst, subst⁻¹}
+use mathlib.Core.Path.{_≡_, refl, ap, _∙_, subst, subst⁻¹}
 use mathlib.Core.Logic.{_↔_}
-use mathlib.Core.Bool.{Bool, true, false, not, cond, _&&_}
-use mathlib.Core.List.{List, [], _∷_, List·Memᴰ}
+use mathlib.Core.Bool.{Bool, true, not, cond}
+use mathlib.Core.List.{List, List·Memᴰ}
 use mathlib.Core.Option.{Option, some}
 use Prim.Native.Nat.{ℕ, suc, _-_, _≤_, _<_}
 use native.Mathlib.Omega.{arith}
 use borrow.Author.Tests.{ltb-true, lt-ltb}
-use lib.Dec.{leb, ltb, eqb}
+use lib.Dec.{ltb, eqb}
 use lib.ListN.{getD}
-use Rattle.numbers.specs.Products.{product}
-use Rattle.multipartition.specs.Lists.{allBelow}
 use Rattle.multipartition.specs.Answers.{Answer, answered, refused}
 use Rattle.multipartition.specs.Owners.{ownerAt}
 use Rattle.multipartition.specs.Tiles.{Inside, isInside, tileNumber, positionOf, oneStepOn}
 use Rattle.multipartition.specs.Slabs.{slabStart, slabEnd, slabOf}
 use Rattle.multipartition.specs.Chains.{headsOf, nextsOf, Chain, Rising}
-use Rattle.multipartition.specs.Plans.{Layout, tilesOf, between, dimensionOk, rowOk, inShape}
+use Rattle.multipartition.specs.Plans.{Layout, tilesOf, between, inShape}
 use Rattle.multipartition.specs.Questions.{extentOf, cutOf, tileOwner, ownerAnswer, numberAnswer, stepAnswer, positionAnswer, slabAnswer, slabOfAnswer, chainsAnswer}
-use Rattle.multipartition.proofs.Tests.{and-true-iff, allBelow-true-iff}
+use Rattle.multipartition.proofs.Tests.{between-true-iff}
 use Rattle.multipartition.proofs.Answers.{answered-iff, answered-injective}
-use Rattle.multipartition.proofs.Plans.{between-true-iff}
+use Rattle.multipartition.proofs.Plans.{in-shape-iff}
 use Rattle.multipartition.proofs.Tiles.{inside-of-test, test-of-inside, number-low, number-high, position-inside, position-of-number, number-of-position, one-step-on-inside, step-back}
 use Rattle.multipartition.proofs.Slabs.{slabs-in-order, slab-start-last, slab-of-holds, slab-of-iff}
 use Rattle.multipartition.proofs.Chains.{tilesOwned, owned-iff, chain-of, chain-rises}
@@ -115,31 +113,10 @@ module _ (plan : Layout) where
 
   -- a cut of a plan in shape is from 1 to its extent
   cut-in-shape : (k : ℕ) → inShape plan ≡ true → between 1 (plan .d) k ≡ true → (1 ≤ cutOf plan k) × (cutOf plan k ≤ extentOf plan k)
-  unfolding inShape
   cut-in-shape k shape dimension =
       let range = between-true-iff 1 (plan .d) k .0 dimension in
-      let all = and-true-iff (D && P) C .0 (and-true-iff (D && P && C) T .0 (and-true-iff (D && P && C && T) R .0 (and-true-iff (D && P && C && T && R) M .0 shape .0) .0) .0) .1 in
-      let here = allBelow-true-iff (plan .d) (dimensionOk (plan .extents) (plan .cuts)) .0 all (k - 1) (omega (arith, range .0, range .1)) in
-      let both = and-true-iff (between 1 1000000 (extentOf plan k) && between 1 (extentOf plan k) (cutOf plan k)) (leb (cutOf plan k) 4096) .0 here .0 in
-      between-true-iff 1 (extentOf plan k) (cutOf plan k) .0 (and-true-iff (between 1 1000000 (extentOf plan k)) (between 1 (extentOf plan k) (cutOf plan k)) .0 both .1)
-    where
-      D : Bool
-      D = between 2 5 (plan .d)
-
-      P : Bool
-      P = between 1 4096 (plan .p)
-
-      C : Bool
-      C = allBelow (plan .d) (dimensionOk (plan .extents) (plan .cuts))
-
-      T : Bool
-      T = leb (tilesOf plan) 16777216
-
-      R : Bool
-      R = allBelow (plan .d) (rowOk (plan .d) (plan .moduli) (plan .matrix))
-
-      M : Bool
-      M = eqb (product (plan .moduli)) (plan .p)
+      let cut = in-shape-iff plan .0 shape .cut-range (k - 1) (omega (arith, range .0, range .1)) in
+      (cut .0, cut .1)
 
   slab-answered : (k s : ℕ) (ends : ℕ × ℕ) → (slabAnswer plan k s ≡ answered ends)
       ↔ ((inShape plan ≡ true) × (between 1 (plan .d) k ≡ true) × (s < cutOf plan k)

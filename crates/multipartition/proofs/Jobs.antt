@@ -14,11 +14,12 @@ use lib.ListN.{length, getD}
 use Rattle.multipartition.specs.Answers.{Answer, answered, refused}
 use Rattle.multipartition.specs.Cuts.{Fits, Even, cheapest}
 use Rattle.multipartition.specs.Plans.{Layout, layoutWith, between, inShape}
-use Rattle.multipartition.specs.Jobs.{InRange, Passed, PlanFor, firstOutside, planWith, planAnswer}
+use Rattle.multipartition.specs.Jobs.{Passed, PlanFor, firstOutside, planWith, planAnswer}
 use Rattle.multipartition.proofs.Answers.{answered-passed}
 use Rattle.multipartition.proofs.Cheapest.{cheapest-even, cheapest-none}
 use Rattle.multipartition.proofs.Fitting.{cheapest-fits}
-use Rattle.multipartition.proofs.Plans.{between-true-iff, layout-in-shape}
+use Rattle.multipartition.proofs.Plans.{layout-in-shape}
+use Rattle.multipartition.proofs.Tests.{between-true-iff}
 
 -- ---- the checks
 

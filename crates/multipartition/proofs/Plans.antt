@@ -7,20 +7,18 @@ use mathlib.Core.List.{List}
 use mathlib.Core.Option.{some}
 use Prim.Native.Nat.{ℕ, zero, _≤_, _<_}
 use native.Mathlib.Omega.{arith}
-use borrow.Author.Tests.{leb-true, eqb-true, le-leb, lt-ltb, eq-eqb}
 use lib.Dec.{leb, ltb, eqb}
 use lib.ListN.{length, getD}
 use Rattle.numbers.specs.Products.{product}
 use Rattle.multipartition.specs.Lists.{allBelow}
 use Rattle.multipartition.specs.Cuts.{Fits, cheapest}
 use Rattle.multipartition.specs.Moduli.{moduliOf}
-use Rattle.multipartition.specs.Matrix.{matrixOf}
 use Rattle.multipartition.specs.Owners.{ownerAt}
 use Rattle.multipartition.specs.Neighbours.{neighbourAt}
 use Rattle.multipartition.specs.Tiles.{Inside, oneStepOn}
 use Rattle.multipartition.specs.Jobs.{InRange}
-use Rattle.multipartition.specs.Plans.{Layout, layoutWith, tilesOf, between, dimensionOk, entryAt, rowOk, inShape}
-use Rattle.multipartition.proofs.Tests.{and-true-iff, allBelow-true-iff}
+use Rattle.multipartition.specs.Plans.{Layout, layoutWith, tilesOf, between, dimensionOk, entryAt, rowOk, inShape, InShape}
+use Rattle.multipartition.proofs.Tests.{and-iff, all-iff, leb-iff, ltb-iff, eqb-iff, between-true-iff}
 use Rattle.multipartition.proofs.MixedRadix.{Positive}
 use Rattle.multipartition.proofs.Tiles.{positive-of-product}
 use Rattle.multipartition.proofs.Cheapest.{cheapest-even}
@@ -30,42 +28,71 @@ use Rattle.multipartition.proofs.Neighbours.{neighbour-owns, neighbour-
 use Rattle.multipartition.proofs.Fitting.{cheapest-fits, fits-length, fits-positive, fits-le-extent}
 use Rattle.multipartition.proofs.Minimal.{positive-at, cut-le, tiles-le}
 
-pub between-true-iff : (low high n : ℕ) → (between low high n ≡ true) ↔ ((low ≤ n) × (n ≤ high))
-between-true-iff low high n = (
-  (λ e. let both = and-true-iff (leb low n) (leb n high) .0 e in (leb-true low n (both .0), leb-true n high (both .1))),
-  λ h. and-true-iff (leb low n) (leb n high) .1 (le-leb low n (h .0), le-leb n high (h .1)),
-)
+-- ---- in shape
+
+-- the checks of a dimension and of a row
+pub dimension-iff : (extents cuts : List ℕ) (k : ℕ) → (dimensionOk extents cuts k ≡ true)
+    ↔ ((((1 ≤ getD extents k 0) × (getD extents k 0 ≤ 1000000)) × ((1 ≤ getD cuts k 0) × (getD cuts k 0 ≤ getD extents k 0))) × (getD cuts k 0 ≤ 4096))
+dimension-iff extents cuts k =
+    and-iff (between 1 1000000 n && between 1 n b) (leb b 4096)
+    (and-iff (between 1 1000000 n) (between 1 n b) (between-true-iff 1 1000000 n) (between-true-iff 1 n b)) (leb-iff b 4096)
+  where
+    n : ℕ
+    n = getD extents k 0
+
+    b : ℕ
+    b = getD cuts k 0
+
+row-iff : (d : ℕ) (moduli : List ℕ) (matrix : List (List ℕ)) (i : ℕ) → (rowOk d moduli matrix i ≡ true)
+    ↔ ((1 ≤ getD moduli i 0) × ((j : ℕ) → j < d → entryAt matrix i j < getD moduli i 0))
+row-iff d moduli matrix i =
+    and-iff (leb 1 (getD moduli i 0)) (allBelow d (λ j. ltb (entryAt matrix i j) (getD moduli i 0))) (leb-iff 1 (getD moduli i 0))
+    (all-iff d (λ j. ltb (entryAt matrix i j) (getD moduli i 0)) (λ j. ltb-iff (entryAt matrix i j) (getD moduli i 0)))
+
+-- the test decides the facts
+pub in-shape-iff : (plan : Layout) → (inShape plan ≡ true) ↔ InShape plan
+unfolding inShape
+in-shape-iff plan =
+    let D : Bool = between 2 5 (plan .d) in
+    let P : Bool = between 1 4096 (plan .p) in
+    let C : Bool = allBelow (plan .d) (dimensionOk (plan .extents) (plan .cuts)) in
+    let T : Bool = leb (tilesOf plan) 16777216 in
+    let R : Bool = allBelow (plan .d) (rowOk (plan .d) (plan .moduli) (plan .matrix)) in
+    let ranges = and-iff D P (between-true-iff 2 5 (plan .d)) (between-true-iff 1 4096 (plan .p)) in
+    let dimensions = and-iff (D && P) C ranges (all-iff (plan .d) (dimensionOk (plan .extents) (plan .cuts)) (dimension-iff (plan .extents) (plan .cuts))) in
+    let tiles = and-iff (D && P && C) T dimensions (leb-iff (tilesOf plan) 16777216) in
+    let rows = and-iff (D && P && C && T) R tiles
+    (all-iff (plan .d) (rowOk (plan .d) (plan .moduli) (plan .matrix)) (row-iff (plan .d) (plan .moduli) (plan .matrix))) in
+    let all = and-iff (D && P && C && T && R) (eqb (product (plan .moduli)) (plan .p)) rows (eqb-iff (product (plan .moduli)) (plan .p)) in (
+      (λ e. let h = all .0 e in
+          record {
+            d-range = h .0 .0 .0 .0 .0;
+            p-range = h .0 .0 .0 .0 .1;
+            extent-range = λ k l. h .0 .0 .0 .1 k l .0 .0;
+            cut-range = λ k l. let cut = h .0 .0 .0 .1 k l in (cut .0 .1 .0, cut .0 .1 .1, cut .1);
+            tiles-high = h .0 .0 .1;
+            modulus-low = λ i l. h .0 .1 i l .0;
+            moduli-product = h .1;
+            entry-below = λ i j l m. h .0 .1 i l .1 j m;
+          }),
+      λ s. all .1 (
+        (
+          (
+            ((s .d-range, s .p-range), λ k l. ((s .extent-range k l, (s .cut-range k l .0, s .cut-range k l .1)), s .cut-range k l .2)),
+            s .tiles-high,
+          ),
+          λ i l. (s .modulus-low i l, λ j m. s .entry-below i j l m),
+        ),
+        s .moduli-product,
+      ),
+    )
 
 -- ---- any plan in shape
 
 module _ (plan : Layout) (shape : inShape plan ≡ true) where
   -- "the moduli multiply to p", and p is not 0
-  moduli-checked : (1 ≤ plan .p) × (product (plan .moduli) ≡ plan .p)
-  unfolding inShape
-  moduli-checked =
-      let moduli = and-true-iff (D && P && C && T && R) M .0 shape in
-      let rows = and-true-iff (D && P && C && T) R .0 (moduli .0) in
-      let tiles = and-true-iff (D && P && C) T .0 (rows .0) in
-      let cuts = and-true-iff (D && P) C .0 (tiles .0) in
-      (between-true-iff 1 4096 (plan .p) .0 (and-true-iff D P .0 (cuts .0) .1) .0, eqb-true (product (plan .moduli)) (plan .p) (moduli .1))
-    where
-      D : Bool
-      D = between 2 5 (plan .d)
-
-      P : Bool
-      P = between 1 4096 (plan .p)
-
-      C : Bool
-      C = allBelow (plan .d) (dimensionOk (plan .extents) (plan .cuts))
-
-      T : Bool
-      T = leb (tilesOf plan) 16777216
-
-      R : Bool
-      R = allBelow (plan .d) (rowOk (plan .d) (plan .moduli) (plan .matrix))
-
-      M : Bool
-      M = eqb (product (plan .moduli)) (plan .p)
+  pub moduli-checked : (1 ≤ plan .p) × (product (plan .moduli) ≡ plan .p)
+  moduli-checked = let s = in-shape-iff plan .0 shape in (s .p-range .0, s .moduli-product)
 
   -- so no modulus is 0
   pub in-shape-moduli-positive : Positive (plan .moduli)
@@ -97,16 +124,23 @@ module _ (plan : Layout) (shape : inShape plan ≡ true) where
 -- The planner's plan is in shape.
 pub layout-in-shape : (p : ℕ) (extents weights cuts : List ℕ) → InRange p extents → cheapest p extents weights ≡ some cuts
     → inShape (layoutWith p extents weights cuts) ≡ true
-unfolding inShape
 layout-in-shape p extents weights cuts range e =
-    rw (
-      between-true-iff 2 5 (length extents) .1 (range .d-low, range .d-high),
-      between-true-iff 1 4096 p .1 (range .p-low, range .p-high),
-      allBelow-true-iff (length extents) (dimensionOk extents cuts) .1 dimension,
-      le-leb (product cuts) 16777216 (tiles-le p extents weights cuts e (range .p-low) (range .p-high)),
-      allBelow-true-iff (length extents) (rowOk (length extents) (moduliOf p cuts) (matrixOf p cuts)) .1 row,
-    )
-    (eq-eqb (product (moduliOf p cuts)) p (moduli-product p cuts (omega (arith, same-length, range .d-low)) (cheapest-even p extents weights cuts e)))
+    in-shape-iff (layoutWith p extents weights cuts) .1
+    (record {
+      d-range = (range .d-low, range .d-high);
+      p-range = (range .p-low, range .p-high);
+      extent-range = λ k l. (range .extent-low k l, range .extent-high k l);
+      cut-range = λ k l. (
+        positive-at cuts (fits-positive extents cuts fits) k (inside k l),
+        fits-le-extent extents cuts fits k (inside k l),
+        cut-le p extents weights cuts e (range .p-low) (range .p-high) k (inside k l),
+      );
+      tiles-high = tiles-le p extents weights cuts e (range .p-low) (range .p-high);
+      modulus-low = λ i l.
+          positive-at (moduliOf p cuts) (moduli-positive p cuts (range .p-low)) i (subst⁻¹ (λ (n : ℕ). i < n) (length-moduli p cuts) (inside i l));
+      moduli-product = moduli-product p cuts (omega (arith, same-length, range .d-low)) (cheapest-even p extents weights cuts e);
+      entry-below = λ i j l m. matrix-entry-below p cuts (range .p-low) i j (inside i l);
+    })
   where
     fits : Fits extents cuts
     fits = cheapest-fits p extents weights cuts e
@@ -116,19 +150,3 @@ layout-in-shape p extents weights cuts range e =
 
     inside : (k : ℕ) → k < length extents → k < length cuts
     inside k l = subst⁻¹ (λ (n : ℕ). k < n) same-length l
-
-    dimension : (k : ℕ) → k < length extents → dimensionOk extents cuts k ≡ true
-    dimension k l =
-        rw (
-          between-true-iff 1 1000000 (getD extents k 0) .1 (range .extent-low k l, range .extent-high k l),
-          between-true-iff 1 (getD extents k 0) (getD cuts k 0) .1
-              (positive-at cuts (fits-positive extents cuts fits) k (inside k l), fits-le-extent extents cuts fits k (inside k l)),
-        )
-        (le-leb (getD cuts k 0) 4096 (cut-le p extents weights cuts e (range .p-low) (range .p-high) k (inside k l)))
-
-    row : (i : ℕ) → i < length extents → rowOk (length extents) (moduliOf p cuts) (matrixOf p cuts) i ≡ true
-    row i l =
-        rw (le-leb 1 (getD (moduliOf p cuts) i 0)
-        (positive-at (moduliOf p cuts) (moduli-positive p cuts (range .p-low)) i (subst⁻¹ (λ (n : ℕ). i < n) (length-moduli p cuts) (inside i l))))
-        (allBelow-true-iff (length extents) (λ j. ltb (entryAt (matrixOf p cuts) i j) (getD (moduliOf p cuts) i 0)) .1
-        (λ j m. lt-ltb (entryAt (matrixOf p cuts) i j) (getD (moduliOf p cuts) i 0) (matrix-entry-below p cuts (range .p-low) i j (inside i l))))

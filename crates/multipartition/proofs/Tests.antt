@@ -2,10 +2,13 @@
 use mathlib.Core.Path.{_≡_, refl, subst⁻¹}
 use mathlib.Core.Logic.{_⊎_, inl, inr, ⊎-elim, _↔_}
 use mathlib.Core.Bool.{Bool, true, false, cond, _&&_, _||_}
-use Prim.Native.Nat.{ℕ, zero, suc, _<_}
+use Prim.Native.Nat.{ℕ, zero, suc, _≤_, _<_}
 use native.Mathlib.Nat.{not-suc-le-zero, le-of-suc-le-suc, le-refl, eq-or-lt-of-le}
 use native.Mathlib.Omega.{arith}
+use borrow.Author.Tests.{leb-true, ltb-true, eqb-true, le-leb, lt-ltb, eq-eqb}
+use lib.Dec.{leb, ltb, eqb}
 use Rattle.multipartition.specs.Lists.{allBelow}
+use Rattle.multipartition.specs.Plans.{between}
 
 pub false-not-true : _≡_ {A = Bool} false true → ⊥
 false-not-true e = let clash : _≡_ {A = ℕ} 0 1 = cc in omega arith
@@ -28,6 +31,32 @@ allBelow-true-iff (suc n) test = (
   where
     here : (allBelow n test ≡ true) × (test n ≡ true) → (k : ℕ) → (k < n → test k ≡ true) → k < suc n → test k ≡ true
     here e k below h = ⊎-elim (λ (q : k ≡ n). subst⁻¹ (λ (j : ℕ). test j ≡ true) q (e .1)) below (eq-or-lt-of-le (le-of-suc-le-suc h))
+
+-- ---- what tests decide, put together
+
+pub and-iff : (s t : Bool) {A B : Type 0} → (s ≡ true) ↔ A → (t ≡ true) ↔ B → (s && t ≡ true) ↔ (A × B)
+and-iff s t f g = (
+  (λ e. let both = and-true-iff s t .0 e in (f .0 (both .0), g .0 (both .1))),
+  λ h. and-true-iff s t .1 (f .1 (h .0), g .1 (h .1)),
+)
+
+pub all-iff : (n : ℕ) (test : ℕ → Bool) {P : ℕ → Type 0} → ((k : ℕ) → (test k ≡ true) ↔ P k) → (allBelow n test ≡ true) ↔ ((k : ℕ) → k < n → P k)
+all-iff n test f = (
+  (λ e k l. f k .0 (allBelow-true-iff n test .0 e k l)),
+  λ h. allBelow-true-iff n test .1 (λ k l. f k .1 (h k l)),
+)
+
+pub leb-iff : (m n : ℕ) → (leb m n ≡ true) ↔ (m ≤ n)
+leb-iff m n = (leb-true m n, le-leb m n)
+
+pub ltb-iff : (m n : ℕ) → (ltb m n ≡ true) ↔ (m < n)
+ltb-iff m n = (ltb-true m n, lt-ltb m n)
+
+pub eqb-iff : (m n : ℕ) → (eqb m n ≡ true) ↔ (m ≡ n)
+eqb-iff m n = (eqb-true m n, eq-eqb m n)
+
+pub between-true-iff : (low high n : ℕ) → (between low high n ≡ true) ↔ ((low ≤ n) × (n ≤ high))
+between-true-iff low high n = and-iff (leb low n) (leb n high) (leb-iff low n) (leb-iff n high)
 
 -- what holds of either choice, where its test says so
 pub by-cond {ℓ} : {A : Type ℓ} (P : A → Type 0) (t : Bool) (x y : A) → (t ≡ true → P x) → (t ≡ false → P y) → P (cond t x y)

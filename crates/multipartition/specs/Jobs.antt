@@ -1,5 +1,5 @@
 -- What the planner answers to a job (document 01, "Choosing the cuts" and "Where each call turns back").
-use mathlib.Core.Bool.{Bool, not, cond, _||_}
+use mathlib.Core.Bool.{not, cond, _||_}
 use mathlib.Core.List.{List, [], _∷_}
 use mathlib.Core.Option.{Option, none, some}
 use mathlib.Core.Path.{_≡_}

@@ -1,7 +1,8 @@
 -- What a plan holds, and when it is in shape (document 01, "Quantities" and "Where each call turns back").
 use mathlib.Core.Bool.{Bool, _&&_}
 use mathlib.Core.List.{List, []}
-use Prim.Native.Nat.{ℕ}
+use mathlib.Core.Path.{_≡_}
+use Prim.Native.Nat.{ℕ, _≤_, _<_}
 use lib.Dec.{leb, ltb, eqb}
 use lib.ListN.{length, getD}
 use Rattle.numbers.specs.Products.{product}
@@ -65,3 +66,15 @@ inShape plan =
     && leb (tilesOf plan) 16777216
     && allBelow (plan .d) (rowOk (plan .d) (plan .moduli) (plan .matrix))
     && eqb (product (plan .moduli)) (plan .p)
+
+-- the same as facts, a field for each clause; dimensions, rows and columns are counted from 0
+pub record InShape (plan : Layout) : Type 0 where
+  pub d-range : (2 ≤ plan .d) × (plan .d ≤ 5)
+  pub p-range : (1 ≤ plan .p) × (plan .p ≤ 4096)
+  pub extent-range : (k : ℕ) → k < plan .d → (1 ≤ getD (plan .extents) k 0) × (getD (plan .extents) k 0 ≤ 1000000)
+  pub cut-range : (k : ℕ) → k < plan .d
+      → (1 ≤ getD (plan .cuts) k 0) × (getD (plan .cuts) k 0 ≤ getD (plan .extents) k 0) × (getD (plan .cuts) k 0 ≤ 4096)
+  pub tiles-high : tilesOf plan ≤ 16777216
+  pub modulus-low : (i : ℕ) → i < plan .d → 1 ≤ getD (plan .moduli) i 0
+  pub moduli-product : product (plan .moduli) ≡ plan .p
+  pub entry-below : (i j : ℕ) → i < plan .d → j < plan .d → entryAt (plan .matrix) i j < getD (plan .moduli) i 0

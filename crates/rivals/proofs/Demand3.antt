@@ -1,35 +1,36 @@
 -- Demand 3: the theory's facts about the cheapest cuts, their owners and neighbours, said of what the calls answer.
-use mathlib.Core.Bool.{Bool, true, not}
-use mathlib.Core.List.{List, [], _∷_}
+use mathlib.Core.Bool.{Bool, true}
+use mathlib.Core.List.{List}
 use mathlib.Core.Logic.{inl, inr}
 use mathlib.Core.Option.{Option, none, some, Option·none-ne-some}
-use mathlib.Core.Path.{_≡_, refl, sym, ap, ap₂, _∙_, subst, subst⁻¹}
-use Prim.Native.Nat.{ℕ, zero, suc, _-_, _*_, _/_, _≤_, _<_}
+use mathlib.Core.Path.{_≡_, refl, sym, ap, ap₂, _∙_, subst⁻¹}
+use Prim.Native.Nat.{ℕ, zero, _-_, _*_, _/_, _≤_, _<_}
 use native.Mathlib.Omega.{arith}
 use borrow.Author.Tests.{lt-ltb}
 use lib.ListN.{length, getD}
 use Rattle.numbers.specs.Products.{product}
 use Rattle.numbers.specs.Sums.{same}
-use Rattle.multipartition.specs.Answers.{Answer, answered, refused}
-use Rattle.multipartition.specs.Cuts.{Fits, costOf, cheapest}
+use Rattle.multipartition.specs.Answers.{Answer, answered}
+use Rattle.multipartition.specs.Cuts.{costOf, cheapest}
 use Rattle.multipartition.specs.Jobs.{PlanFor, Passed, planWith, planAnswer}
 use Rattle.multipartition.specs.Matrix.{matrixOf}
 use Rattle.multipartition.specs.Moduli.{moduliOf}
 use Rattle.multipartition.specs.Neighbours.{neighbourAt}
 use Rattle.multipartition.specs.Owners.{ownerAt, ownerOf}
-use Rattle.multipartition.specs.Plans.{Layout, layoutWith, between, inShape}
+use Rattle.multipartition.specs.Plans.{Layout, layoutWith, inShape}
 use Rattle.multipartition.specs.Questions.{ownerAnswer, neighbourAnswer}
-use Rattle.multipartition.specs.Rivals.{Rival, held, Balanced, Face}
-use Rattle.multipartition.specs.Tiles.{Inside, isInside, oneStepOn}
+use Rattle.multipartition.specs.Rivals.{held, Balanced}
+use Rattle.multipartition.specs.Tiles.{Inside, oneStepOn}
 use Rattle.multipartition.proofs.Cheapest.{cheapest-even}
 use Rattle.multipartition.proofs.Faces.{faces-differ}
 use Rattle.multipartition.proofs.Fitting.{cheapest-fits, fits-length}
-use Rattle.multipartition.proofs.GridSums.{total, total-ext, held-total}
+use Rattle.multipartition.proofs.GridSums.{total-ext, held-total}
 use Rattle.multipartition.proofs.Jobs.{plan-answered, plan-in-shape, plan-of-passed}
 use Rattle.multipartition.proofs.Minimal.{cheapest-minimal}
 use Rattle.multipartition.proofs.Neighbours.{neighbour-owns}
 use Rattle.multipartition.proofs.Owners.{owner-below, even-owners, share-exact}
-use Rattle.multipartition.proofs.Plans.{between-true-iff, in-shape-moduli-positive}
+use Rattle.multipartition.proofs.Plans.{in-shape-moduli-positive}
+use Rattle.multipartition.proofs.Tests.{between-true-iff}
 use Rattle.multipartition.proofs.Rivals.{balanced-iff-cheapest, cheapest-no-dearer}
 use Rattle.multipartition.proofs.Tiles.{test-of-inside, one-step-on-inside}
 use Rattle.layout.specs.declared.Plan.{Plan}

@@ -7,10 +7,11 @@ use lib.ListN.{getD}
 use borrow.Author.Tests.{not-true, not-false, le-leb}
 use Rattle.multipartition.specs.Plans.{between, inShape}
 use Rattle.multipartition.specs.Questions.{extentOf, cutOf}
+use Rattle.multipartition.proofs.Tests.{between-true-iff}
 use Rattle.layout.specs.declared.Plan.{Plan}
 use Rattle.layout.specs.Plans.{layoutOf}
 use Rattle.layout.specs.Shaped.{Shaped}
-use Rattle.layout.proofs.Shaped.{shaped, between-true}
+use Rattle.layout.proofs.Shaped.{shaped}
 use Rattle.layout.proofs.Places as places
 
 -- ---- what a check says that was made as `test`
@@ -35,7 +36,7 @@ module _ (plan : Plan) (k : ℕ) (test : Bool) (told : test ≡ between 1 (layou
   pub passes-dimension : not test ≡ false → Placed plan k
   unfolding layoutOf
   passes-dimension e =
-      let bounds = between-true 1 (plan .d) k (sym told ∙ not-false test e) in
+      let bounds = between-true-iff 1 (plan .d) k .0 (sym told ∙ not-false test e) in
       record { low = bounds .0; below = omega (arith, bounds .0, bounds .1); back = omega (arith, bounds .0) }
 
 -- ---- the dimension at place k
