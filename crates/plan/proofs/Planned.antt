@@ -11,16 +11,18 @@ use Rattle.multipartition.proofs.Jobs.{plan-in-shape}
 use Rattle.layout.proofs.Plans.{layout-of-plan}
 use Rattle.planner.specs.Planned.{plannedOf}
 use Rattle.planner.proofs.Answers.{Numbered, numbered-plan, plan-sized}
-use Rattle.plan_text.specs.PlanText.{answerText, printedPlan}
-use Rattle.plan_text.proofs.Lines.{printed-in-shape}
-use Rattle.plan.specs.Printed.{plannedText}
+use Rattle.plan_text.specs.PlanText.{answerText}
+use Rattle.plan_text.specs.Told.{textAnswer, printAnswer}
+use Rattle.plan_text.proofs.Handing.{print-in-shape}
+use Rattle.plan.specs.Printed.{plannedAnswer}
 
-pub planned-text : (p d : ℕ) (extents weights : List ℕ) → plannedText (plannedOf (planAnswer p d extents weights)) ≡ answerText (planAnswer p d extents weights)
-unfolding plannedText plannedOf answerText
-planned-text p d extents weights = go (planAnswer p d extents weights) refl (numbered-plan p d extents weights)
+pub planned-answer : (p d : ℕ) (extents weights : List ℕ) (places : ℕ)
+    → plannedAnswer (plannedOf (planAnswer p d extents weights)) places ≡ textAnswer (answerText (planAnswer p d extents weights)) places
+unfolding plannedAnswer plannedOf answerText
+planned-answer p d extents weights places = go (planAnswer p d extents weights) refl (numbered-plan p d extents weights)
   where
-    go : (a : Answer Layout) → planAnswer p d extents weights ≡ a → Numbered a → plannedText (plannedOf a) ≡ answerText a
+    go : (a : Answer Layout) → planAnswer p d extents weights ≡ a → Numbered a → plannedAnswer (plannedOf a) places ≡ textAnswer (answerText a) places
     go (answered plan) e h =
-        ap printedPlan (layout-of-plan plan (plan-sized p d extents weights plan e))
-        ∙ printed-in-shape plan (plan-in-shape p d extents weights plan e)
+        ap (λ (l : Layout). printAnswer l places) (layout-of-plan plan (plan-sized p d extents weights plan e))
+        ∙ print-in-shape plan places (plan-in-shape p d extents weights plan e)
     go (refused number place) e h = rw (ne-eqb number 0 (λ z. omega arith))

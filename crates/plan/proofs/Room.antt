@@ -9,8 +9,7 @@ use native.Mathlib.Nat.{mul-le-mul}
 use native.Mathlib.Omega.{arith}
 use lib.ListN.{length, take, drop, getD, length-append, length-take, length-drop, List·getD-eq-default}
 use lib.Seq.{getD-drop}
-use Rattle.numerals.proofs.Decimal.{length-decimal, lt-or-le}
-use Rattle.numerals.proofs.Output.{written-front}
+use Rattle.numerals.proofs.Decimal.{lt-or-le}
 use Rattle.multipartition.specs.Answers.{Answer, answered, refused, Check, checked}
 use Rattle.multipartition.specs.Cuts.{costOf, cheapest}
 use Rattle.multipartition.specs.Plans.{Layout, between, inShape}
@@ -25,9 +24,13 @@ use Rattle.job_text.specs.Readable.{largest, Place, Finds}
 use Rattle.job_text.proofs.Bounds.{all-at}
 use Rattle.job_text.proofs.Finds.{finds-unique}
 use Rattle.job_text.proofs.Front.{longestLine, finds-front}
+use Rattle.plan_text.specs.declared.Printed.{Printed}
+use Rattle.plan_text.specs.declared.Printed.the-variants.{Bytes, Refused}
 use Rattle.plan_text.specs.PlanText.{planText, refusedText, answerText}
-use Rattle.plan_text.proofs.Lengths.{longestPlan, length-plan-text}
-use Rattle.plan.specs.Prints.{jobAnswer, programAnswer, Prints, Answers}
+use Rattle.plan_text.specs.Told.{textAnswer, toldPrinted, lengthOf, afterwards}
+use Rattle.plan_text.proofs.Lengths.{longestPlan, length-plan-text, length-refused-text}
+use Rattle.plan_text.proofs.Handing.{text-fits}
+use Rattle.plan.specs.Prints.{jobAnswer, programAnswer, Prints, Answers, Runs}
 use Rattle.planner.proofs.Answers.{plan-sized}
 
 -- ---- the input
@@ -45,12 +48,6 @@ prints-front input bytes n h p = record { read = p .read; finds = finds-front in
 
 -- ---- the output: a refusal
 
-length-refused : (number place : ℕ) → number < 100 → place < 1000 → length (refusedText number place) ≤ 15
-length-refused number place h k =
-    let n = length-decimal 1 number h in
-    let p = length-decimal 2 place k in
-    simp length-append (omega arith)
-
 place-le : (text : List ℕ) (k : ℕ) → Place text k → k ≤ length text + 1
 place-le text k (inl a) = let within = a .0 .0 in omega arith
 place-le text k (inr a) = let e = a .1 in omega arith
@@ -67,11 +64,11 @@ first-outside-le k (n ∷ extents) = go (between 1 1000000 n) (first-outside-le 
 -- a refusal with a number and place of few digits
 abbrev Short : Answer Layout → Type 0
 Short (answered plan) = Unit {0}
-Short (refused number place) = (number < 100) × (place < 1000)
+Short (refused number place) = (number < 1000) × (place < 1000)
 
 abbrev AllShort : List Check → Type 0
 AllShort [] = Unit {0}
-AllShort (c ∷ checks) = (c .number < 100) × (c .place < 1000) × AllShort checks
+AllShort (c ∷ checks) = (c .number < 1000) × (c .place < 1000) × AllShort checks
 
 short-checked : (checks : List Check) (answer : Answer Layout) → AllShort checks → Short answer → Short (checked checks answer)
 short-checked [] answer hs h = h
@@ -140,7 +137,7 @@ length-job p d extents weights few small = go (planAnswer p d extents weights) r
   where
     go : (a : Answer Layout) → planAnswer p d extents weights ≡ a → Short a → length (answerText a) ≤ longestPlan
     go (answered plan) e h = length-plan p d extents weights plan small e
-    go (refused number place) e h = omega (arith, length-refused number place (h .0) (h .1))
+    go (refused number place) e h = omega (arith, length-refused-text 2 number place (h .0) (h .1))
 
 -- for an input of 256 bytes at most
 pub prints-length : (input bytes : List ℕ) → length input ≤ 256 → Prints input bytes → length bytes ≤ longestPlan
@@ -157,13 +154,32 @@ prints-length input bytes few p = rw (p .prints) (go (p .read) (p .finds))
     go (refused number place) f =
         let within = place-le input place (f .2) in
         let ten = f .1 in
-        omega (arith, length-refused number place (omega arith) (omega arith))
+        omega (arith, length-refused-text 2 number place (omega arith) (omega arith))
 
--- WHAT THE PROGRAM WRITES is what is printed for the whole input, though it reads 256 bytes of it and has `longestPlan` places
-pub program-prints : (input before after : List ℕ) (next : ℕ) → longestPlan ≤ length before → Answers (take 256 input) before after next
-    → Prints input (take next after)
-program-prints input before after next room a =
-    let few : length (take 256 input) ≤ 256 = omega (arith, length-take 256 input) in
-    let fits = prints-length (take 256 input) (a .bytes) few (a .right) in
-    prints-front input (take next after) 256 (omega arith)
-    (subst (Prints (take 256 input)) (sym (written-front (a .written) (omega arith))) (a .right))
+-- ---- the program between its two lists
+
+module _ {read lent list : List ℕ} {printed : Printed} (a : Answers read printed lent list) (few : length read ≤ 256) (room : longestPlan ≤ length lent) where
+  fits : textAnswer (a .bytes) (length lent) ≡ answered (a .bytes)
+  fits = text-fits (a .bytes) (length lent) (omega (arith, prints-length read (a .bytes) few (a .right)))
+
+  -- so nothing is refused
+  pub never-refused : (number place : ℕ) → printed ≡ Refused number place → ⊥
+  never-refused number place e =
+      let told : refused number place ≡ answered (length (a .bytes)) = sym (ap toldPrinted e) ∙ a .handed .told ∙ ap lengthOf fits in
+      let clash : _≡_ {A = ℕ} 0 1 = cc in
+      absurd (omega arith)
+
+  -- and what is printed for the front of an input is printed for the whole of it
+  pub runs-whole : (places count : ℕ) → longestLine < places → printed ≡ Bytes count → Runs places read lent list count
+  runs-whole places count enough e =
+      let told : answered count ≡ answered (length (a .bytes)) = sym (ap toldPrinted e) ∙ a .handed .told ∙ ap lengthOf fits in
+      record {
+        bytes = a .bytes;
+        right = λ input front. prints-front input (a .bytes) places enough (subst (λ (t : List ℕ). Prints t (a .bytes)) (sym front) (a .right));
+        held = a .handed .held ∙ ap (λ (answer : Answer (List ℕ)). afterwards answer lent) fits;
+        counted = cc;
+      }
+
+pub runs-within : {places count : ℕ} {read lent list : List ℕ} → Runs places read lent list count → count ≤ length list
+runs-within {places} {count} {read} {lent} {list} r =
+    omega (arith, r .counted, ap length (r .held), length-append (r .bytes) (drop (length (r .bytes)) lent))

@@ -1,14 +1,15 @@
 -- What the program prints for an input (document 01, "The printed plan").
 use mathlib.Core.Path.{_≡_}
-use mathlib.Core.List.{List}
+use mathlib.Core.List.{List, _++_}
 use Prim.Native.Nat.{ℕ}
-use lib.ListN.{getD, take, drop}
-use Rattle.numerals.specs.Output.{Written}
+use lib.ListN.{length, getD, take, drop}
 use Rattle.multipartition.specs.Answers.{Answer, answered, refused}
 use Rattle.multipartition.specs.Plans.{Layout}
 use Rattle.multipartition.specs.Jobs.{planAnswer}
 use Rattle.job_text.specs.Readable.{Finds}
 use Rattle.plan_text.specs.PlanText.{answerText}
+use Rattle.plan_text.specs.declared.Printed.{Printed}
+use Rattle.plan_text.specs.Told.{textAnswer, Hands}
 
 -- The job of a line is "p, d, the extents, the weights": of the numbers after d the first d are the extents and all others the weights, so
 -- that "3 applies if the numbers after d are not 2·d many".
@@ -26,8 +27,16 @@ pub record Prints (input bytes : List ℕ) : Type 0 where
   pub finds : Finds input read
   pub prints : bytes ≡ answerText (programAnswer read)
 
--- it stands at the front of a lent list, and so many bytes it has
-pub record Answers (input before after : List ℕ) (next : ℕ) : Type 0 where
+-- it is handed over in a lent list
+pub record Answers (input : List ℕ) (printed : Printed) (lent list : List ℕ) : Type 0 where
   pub bytes : List ℕ
   pub right : Prints input bytes
-  pub written : Written before 0 bytes after next
+  pub handed : Hands (textAnswer bytes (length lent)) printed lent list
+
+-- THE PROGRAM between what it reads and what it writes. `read` is read until its list of `places` places is full or the input ends, so that it
+-- is the front of the input. Whatever the whole input is, what is printed for it stands at the front of the other list, all of it.
+pub record Runs (places : ℕ) (read lent list : List ℕ) (count : ℕ) : Type 0 where
+  pub bytes : List ℕ
+  pub right : (input : List ℕ) → take places input ≡ read → Prints input bytes
+  pub held : list ≡ bytes ++ drop (length bytes) lent
+  pub counted : count ≡ length bytes

@@ -1,14 +1,28 @@
 // The program: reads a job line from standard input and prints its plan, or a refusal, to standard output.
 use job_text::Line;
+use libc::STDERR_FILENO;
 use libc::STDIN_FILENO;
 use libc::STDOUT_FILENO;
+use plan_text::Printed;
 use planner::Planned;
 ghost use mathlib.Core.Path.{_≡_};
-ghost use Prim.Native.Nat.{min};
-ghost use Rattle.numerals.specs.Output.{Written};
+ghost use Prim.Native.Nat.{_≤_, min};
+ghost use lib.ListN.{length, take};
 ghost use Rattle.planner.specs.Planned.{plannedOf};
-ghost use Rattle.plan.specs.Prints.{jobAnswer, Answers};
-ghost use Rattle.plan.specs.Printed.{plannedText};
+ghost use Rattle.plan_text.specs.Told.{Hands};
+ghost use Rattle.plan.specs.Prints.{jobAnswer, Answers, Runs};
+ghost use Rattle.plan.specs.Printed.{plannedAnswer};
+
+// How many bytes the program reads at most, and how many it can print.
+const READ: usize = 256;
+
+const ROOM: usize = plan_text::LONGEST_PLAN;
+
+// What came of reading: so many bytes, or a read that failed.
+enum Input {
+    Bytes(usize),
+    Failed,
+}
 
 fn lesser(a: usize, b: usize) -> usize
     ensures { λ r. ⌜ r ≡ min a b ⌝ }
@@ -28,8 +42,8 @@ fn plan_numbers(p: u32, d: usize, numbers: &[u32]) -> Planned
 }
 
 // What the planner answered, printed.
-fn print_planned(planned: Planned, out: &mut [u8]) -> usize
-    ensures { λ r. ⌜ Written (now (out .entry)) 0 (plannedText planned) (now (out .exit)) r ⌝ }
+fn print_planned(planned: Planned, out: &mut [u8]) -> Printed
+    ensures { λ r. ⌜ Hands (plannedAnswer planned (length (now (out .entry)))) r (now (out .entry)) (now (out .exit)) ⌝ }
 {
     if planned.number != 0 {
         return plan_text::print_refused(planned.number as u64, planned.place as u64, out);
@@ -38,9 +52,9 @@ fn print_planned(planned: Planned, out: &mut [u8]) -> usize
     plan_text::print_plan(plan, out)
 }
 
-// What is printed for the input, at the front of the lent list.
-fn answer(input: &[u8], out: &mut [u8]) -> usize
-    ensures { λ r. ⌜ Answers (now (input .entry)) (now (out .entry)) (now (out .exit)) r ⌝ }
+// What is printed for the input.
+fn answer(input: &[u8], out: &mut [u8]) -> Printed
+    ensures { λ r. ⌜ Answers (now (input .entry)) r (now (out .entry)) (now (out .exit)) ⌝ }
 {
     let job = job_text::read_job(input);
     let line = job.line;
@@ -52,11 +66,57 @@ fn answer(input: &[u8], out: &mut [u8]) -> usize
     print_planned(planned, out)
 }
 
-// Of an input 256 bytes settle what is printed, and 102,667 places hold it (proofs/Room, `program-prints`).
+// The program between its two lists: the first n bytes of `input` were read, and it answers how many bytes of `out` are to be written. READ
+// bytes settle what is printed for the whole input, and ROOM places hold it (proofs/Room).
+fn run(input: [u8; READ], n: usize, out: &mut [u8; ROOM]) -> usize
+    ensures { λ r. ⌜ Runs (length input) (take n input) (now (out .entry)) (now (out .exit)) r ⌝ }
+{
+    let read = lesser(n, READ);
+    let printed = answer(&input[..read], out);
+    let Printed::Bytes(count) = printed else {
+        return 0;
+    };
+    count
+}
+
+// One read into the list, behind its first `done` places.
+fn read_on(input: &mut [u8], done: usize) -> isize
+    requires { ⌜ done ≤ length (now input) ⌝ }
+{
+    libc::read(STDIN_FILENO, &mut input[done..])
+}
+
+// Reads until the list is full, the input ends or a read fails.
+fn read_input(input: &mut [u8]) -> Input {
+    let mut done = 0;
+    while done < input.len() {
+        let got = read_on(input, done);
+        if got < 0 {
+            return Input::Failed;
+        }
+        let more = io::count(got, &input[done..]);
+        if more == 0 {
+            return Input::Bytes(done);
+        }
+        done += more;
+    }
+    Input::Bytes(done)
+}
+
+// A program has no exit status: where a read or a write fails, it says so on standard error, and where a read fails it prints nothing.
 fn main() {
-    let mut input = [0u8; 256];
-    let n = io::read_full(STDIN_FILENO, &mut input);
-    let mut out = [0u8; 102667];
-    let m = answer(&input[..n], &mut out);
-    io::write_all(STDOUT_FILENO, &out[..m]);
+    let mut input = [0u8; READ];
+    let got = read_input(&mut input);
+    let Input::Bytes(n) = got else {
+        io::write_all(STDERR_FILENO, b"plan: the input could not be read\n");
+        return;
+    };
+    let mut out = [0u8; ROOM];
+    let m = run(input, n, &mut out);
+    if !io::write_all(STDOUT_FILENO, &out[..m]) {
+        io::write_all(
+            STDERR_FILENO,
+            b"plan: the output could not be written in full\n",
+        );
+    }
 }

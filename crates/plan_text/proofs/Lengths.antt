@@ -23,7 +23,7 @@ use Rattle.layout.specs.Plans.{layoutOf}
 use Rattle.layout.specs.Shaped.{entryOf, Shaped}
 use Rattle.layout.proofs.Places.{row-at, cuts-length, moduli-length, cut-at, modulus-at}
 use Rattle.layout.proofs.Shaped.{in-shape-of-shaped}
-use Rattle.plan_text.specs.PlanText.{joined, rowLine, upLine, planText}
+use Rattle.plan_text.specs.PlanText.{joined, rowLine, upLine, planText, refusedText}
 use Rattle.plan_text.proofs.Lines.{up-none, up-processors}
 
 -- n texts of at most c bytes each
@@ -106,4 +106,12 @@ length-plan-text plan s h =
     let moduli = length-moduli plan s in
     let rows = length-joined (plan .d) 29 (rowLine (layoutOf plan .matrix)) (length-row plan s) in
     let ups = length-joined (plan .d) 20485 (λ i. upLine (layoutOf plan) (suc i)) (length-up plan s) in
+    simp length-append (omega arith)
+
+-- ---- a refusal
+
+pub length-refused-text : (k number place : ℕ) → number < 10 ^ suc k → place < 10 ^ suc k → length (refusedText number place) ≤ 10 + 2 * suc k
+length-refused-text k number place h l =
+    let n = length-decimal k number h in
+    let p = length-decimal k place l in
     simp length-append (omega arith)

@@ -1,3 +1,4 @@
 pub mod Lines
 pub mod Example
 pub mod Lengths
+pub mod Handing

@@ -1,6 +1,6 @@
 -- The lines of a printed plan: a line of the neighbours processor by processor, and the lines of the neighbours by the cut.
 use mathlib.Core.Path.{_≡_, refl, ap, ap₂, _∙_}
-use mathlib.Core.Bool.{true, false}
+use mathlib.Core.Bool.{true}
 use mathlib.Core.List.{List, [], _∷_, _++_, map}
 use mathlib.Core.Option.{Option, none, some}
 use Prim.Native.Nat.{ℕ, zero, suc, _+_, _-_, _≤_, _<_}
@@ -14,10 +14,10 @@ use Rattle.numerals.specs.Decimal.{decimal}
 use Rattle.numerals.specs.Lines.{separator, lineOf}
 use Rattle.numerals.proofs.Lines.{lineFront, front-suc, front-all, separator-before, separator-last}
 use Rattle.multipartition.specs.Lists.{listOf}
-use Rattle.multipartition.specs.Plans.{Layout, inShape}
+use Rattle.multipartition.specs.Plans.{Layout}
 use Rattle.multipartition.specs.Neighbours.{nextOwner, neighbourAt}
 use Rattle.multipartition.proofs.Chains.{length-listOf, getD-listOf}
-use Rattle.plan_text.specs.PlanText.{joined, processors, orNone, upLine, planText, refusedText, answerText, printedPlan}
+use Rattle.plan_text.specs.PlanText.{joined, processors, orNone, upLine}
 
 -- ---- texts one after the other
 
@@ -92,13 +92,3 @@ module _ (plan : Layout) (k : ℕ) where
       let next = nextOwner (plan .moduli) (plan .matrix) k true in
       up-by (listOf 0 (plan .p) next) (processors-some (neighbour k) next (λ q. rw (ne-eqb _ _ e)) 0 (plan .p))
       ∙ ap (λ (t : List ℕ). bytesOf "up " ++ (decimal (suc k) ++ (32 ∷ t))) (or-none-some (plan .p) next h)
-
--- ---- the whole plan, by its shape
-
-pub printed-in-shape : (plan : Layout) → inShape plan ≡ true → printedPlan plan ≡ planText plan
-unfolding printedPlan answerText
-printed-in-shape plan e = rw e
-
-pub printed-out-of-shape : (plan : Layout) → inShape plan ≡ false → printedPlan plan ≡ refusedText 6 0
-unfolding printedPlan answerText
-printed-out-of-shape plan e = rw e

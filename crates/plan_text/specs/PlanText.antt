@@ -7,9 +7,8 @@ use Rattle.numerals.specs.Words.{bytesOf}
 use Rattle.numerals.specs.Decimal.{decimal}
 use Rattle.numerals.specs.Lines.{lineOf}
 use Rattle.multipartition.specs.Lists.{listOf}
-use Rattle.multipartition.specs.Answers.{Answer, answered, refused, checked}
+use Rattle.multipartition.specs.Answers.{Answer, answered, refused}
 use Rattle.multipartition.specs.Plans.{Layout}
-use Rattle.multipartition.specs.Questions.{shapeCheck}
 use Rattle.multipartition.specs.StarredGrids.{neighboursUp}
 
 -- f 0, f 1 and so on, one after the other: n texts
@@ -54,7 +53,3 @@ refusedText number place = bytesOf "refused " ++ lineOf (number ∷ place ∷ []
 unfoldable pub answerText : Answer Layout → List ℕ
 answerText (answered plan) = planText plan
 answerText (refused number place) = refusedText number place
-
--- what is printed of a plan, whoever made it: out of shape it is a 6
-unfoldable pub printedPlan : Layout → List ℕ
-printedPlan plan = answerText (checked (shapeCheck plan ∷ []) (answered plan))

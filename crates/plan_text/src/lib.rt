@@ -1,10 +1,10 @@
-// The printer of the plan, into a lent list of bytes. Each function takes the place where its text starts and answers the place after it; a
-// byte for which the list has no place is left out.
+// The printer of the plan, into a lent list of bytes. The private functions `put_..` write from a place on and answer the place after it; a
+// byte for which the list has no place is left out. The calls hand over whole texts.
 use layout::Plan;
 ghost use mathlib.Core.Bool.{true};
 ghost use mathlib.Core.List.{[], _∷_, _++_};
 ghost use Prim.Native.Nat.{suc, _<_, _≤_};
-ghost use lib.ListN.{take};
+ghost use lib.ListN.{length, take};
 ghost use Rattle.numerals.specs.Words.{bytesOf};
 ghost use Rattle.numerals.specs.Lines.{lineOf};
 ghost use Rattle.numerals.specs.Output.{Written};
@@ -13,7 +13,8 @@ ghost use Rattle.multipartition.specs.Neighbours.{nextOwner};
 ghost use Rattle.layout.specs.Plans.{rowsFrom, layoutOf};
 ghost use Rattle.layout.specs.Shaped.{Shaped};
 ghost use Rattle.questions.specs.Bounds.{Reduced};
-ghost use Rattle.plan_text.specs.PlanText.{joined, rowLine, upLine, planText, refusedText, printedPlan};
+ghost use Rattle.plan_text.specs.PlanText.{joined, rowLine, upLine, planText, refusedText};
+ghost use Rattle.plan_text.specs.Told.{textAnswer, printAnswer, Hands};
 
 // The words that open the lines, and the one in the neighbours' stead.
 const PLAN: [u8; 5] = *b"plan ";
@@ -31,6 +32,17 @@ const UP: [u8; 3] = *b"up ";
 const NONE: [u8; 5] = *b"none\n";
 
 const REFUSED: [u8; 8] = *b"refused ";
+
+// The most bytes that a plan has, and a refusal (proofs/Lengths).
+pub const LONGEST_PLAN: usize = 102667;
+
+const LONGEST_REFUSED: usize = 50;
+
+// The answer of a printing call: the text, of so many bytes, stands at the front of the lent list, or the list is as it was.
+pub enum Printed {
+    Bytes(usize),
+    Refused { number: u32, place: u32 },
+}
 
 // A word and a line of numbers.
 fn put_line(out: &mut [u8], at: usize, word: &[u8], numbers: &[u32]) -> usize
@@ -115,8 +127,8 @@ fn put_ups(out: &mut [u8], at: usize, plan: Plan) -> usize
     next
 }
 
-// A plan in shape.
-fn print_in_shape(plan: Plan, out: &mut [u8]) -> usize
+// The lines of a plan in shape.
+fn put_plan(out: &mut [u8], plan: Plan) -> usize
     requires { ⌜ Shaped plan ⌝ }
     ensures { λ r. ⌜ Written (now (out .entry)) 0 (planText (layoutOf plan)) (now (out .exit)) r ⌝ }
 {
@@ -133,8 +145,8 @@ fn print_in_shape(plan: Plan, out: &mut [u8]) -> usize
     put_ups(out, next, plan)
 }
 
-// A refusal.
-pub fn print_refused(number: u64, place: u64, out: &mut [u8]) -> usize
+// The line of a refusal.
+fn put_refused(out: &mut [u8], number: u64, place: u64) -> usize
     ensures { λ r. ⌜ Written (now (out .entry)) 0 (refusedText number place) (now (out .exit)) r ⌝ }
 {
     let mut next = numerals::put_bytes(out, 0, &REFUSED);
@@ -144,12 +156,40 @@ pub fn print_refused(number: u64, place: u64, out: &mut [u8]) -> usize
     numerals::put_byte(out, next, 10)
 }
 
-// Prints a plan, or refusal 6 where it is out of shape, and answers how many bytes that are.
-pub fn print_plan(plan: Plan, out: &mut [u8]) -> usize
-    ensures { λ r. ⌜ Written (now (out .entry)) 0 (printedPlan (layoutOf plan)) (now (out .exit)) r ⌝ }
+// A whole text to the front of the lent list, if there is room for all of it.
+fn hand_over(text: &[u8], out: &mut [u8]) -> Printed
+    ensures { λ r. ⌜ Hands (textAnswer (now (text .entry)) (length (now (out .entry)))) r (now (out .entry)) (now (out .exit)) ⌝ }
 {
-    if layout::in_shape(plan) {
-        return print_in_shape(plan, out);
+    if out.len() < text.len() {
+        return Printed::Refused {
+            number: 9,
+            place: 0,
+        };
     }
-    print_refused(6, 0, out)
+    let count = numerals::put_bytes(out, 0, text);
+    Printed::Bytes(count)
+}
+
+// Prints a refusal.
+pub fn print_refused(number: u64, place: u64, out: &mut [u8]) -> Printed
+    ensures { λ r. ⌜ Hands (textAnswer (refusedText number place) (length (now (out .entry)))) r (now (out .entry)) (now (out .exit)) ⌝ }
+{
+    let mut text = [0u8; LONGEST_REFUSED];
+    let n = put_refused(&mut text, number, place);
+    hand_over(&text[..n], out)
+}
+
+// Prints a plan. The text is made in a list of its own, since its length is known only then and a refusal leaves the lent list as it was.
+pub fn print_plan(plan: Plan, out: &mut [u8]) -> Printed
+    ensures { λ r. ⌜ Hands (printAnswer (layoutOf plan) (length (now (out .entry)))) r (now (out .entry)) (now (out .exit)) ⌝ }
+{
+    if !layout::in_shape(plan) {
+        return Printed::Refused {
+            number: 6,
+            place: 0,
+        };
+    }
+    let mut text = [0u8; LONGEST_PLAN];
+    let n = put_plan(&mut text, plan);
+    hand_over(&text[..n], out)
 }

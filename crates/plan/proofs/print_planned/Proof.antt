@@ -1,7 +1,7 @@
 -- `plan::print_planned` meets its contract: the definition's test is the code's.
 use borrow.Author.Needs.{needs}
 use borrow.Author.Tests.{eq-eqb, ne-eqb}
-use Rattle.plan.specs.Printed.{plannedText}
+use Rattle.plan.specs.Printed.{plannedAnswer}
 use Rattle.plan.proofs.print_planned.Statement.{statement}
 use Rattle.plan.proofs.print_planned.Tie as tie
 
@@ -18,7 +18,7 @@ same-length : tie.Need-same-length
 same-length c = search needs
 
 returns : tie.Need-returns
-unfolding plannedText
+unfolding plannedAnswer
 returns c =
     let printed = c .before .before in
     rw (ne-eqb _ _ (printed .before .before .before .before .if1 .taken)) (printed .print-refused .ensures)
@@ -30,7 +30,7 @@ same-length-2 : tie.Need-same-length-2
 same-length-2 c = search needs
 
 returns-2 : tie.Need-returns-2
-unfolding plannedText
+unfolding plannedAnswer
 returns-2 c =
     let printed = c .before .before in
     rw (eq-eqb _ _ (printed .before .before .before .if1 .left)) (printed .print-plan .ensures)

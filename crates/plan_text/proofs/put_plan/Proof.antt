@@ -1,12 +1,12 @@
--- `plan_text::print_in_shape` meets its contract: the lines one after the other.
+-- `plan_text::put_plan` meets its contract: the lines one after the other.
 use mathlib.Core.Path.{sym}
 use lib.Seq.{length-take-le}
 use borrow.Author.Needs.{needs}
 use Rattle.numerals.proofs.Output.{written-both}
 use Rattle.layout.specs.Plans.{layoutOf}
 use Rattle.plan_text.specs.PlanText.{planText}
-use Rattle.plan_text.proofs.print_in_shape.Statement.{statement}
-use Rattle.plan_text.proofs.print_in_shape.Tie as tie
+use Rattle.plan_text.proofs.put_plan.Statement.{statement}
+use Rattle.plan_text.proofs.put_plan.Tie as tie
 
 cast-t12 : tie.Need-cast-t12
 cast-t12 c = search needs
@@ -71,8 +71,8 @@ returns c =
     (rows .put-rows .ensures))
     (ups .put-ups .ensures)
 
-pub print-in-shape-spec : {M : Type 1} → statement M
-print-in-shape-spec =
+pub put-plan-spec : {M : Type 1} → statement M
+put-plan-spec =
     tie.close
     (tie.spec
     cast-t12
