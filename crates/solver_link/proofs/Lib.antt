@@ -1,4 +1,5 @@
-pub mod Fill
+pub mod Parts
 pub mod Plans
 pub mod Answers
 pub mod Planning
+pub mod Positions

@@ -1,15 +1,16 @@
 -- A plan and its list: the list of a plan is read as that plan.
 use mathlib.Core.Path.{_≡_, refl, sym, ap, _∙_}
-use mathlib.Core.List.{List, _∷_, _++_}
-use Prim.Native.Nat.{ℕ, _+_, _-_, _*_, _/_, _%_, _≤_, _<_}
+use mathlib.Core.List.{List, [], _∷_, _++_}
+use Prim.Native.Nat.{ℕ, _+_, _*_, _/_, _%_}
 use native.Mathlib.Nat.{div-add-mod'}
 use native.Mathlib.Omega.{arith}
 use lib.ListN.{length, getD, take, drop, replicate, length-append, length-replicate}
-use lib.Seq.{length-take-le, take-all, take-at, drop-at, drop-drop, getD-take, getD-drop}
+use lib.Seq.{sets, length-take-le, take-all, take-at, drop-at, drop-drop, getD-drop}
 use Rattle.multipartition.specs.Plans.{Layout}
 use Rattle.layout.specs.declared.Plan.{Plan}
 use Rattle.layout.specs.Plans.{flat, planOf}
 use Rattle.solver_link.specs.Link.{planIn, listOfPlan}
+use Rattle.solver_link.proofs.Parts.{sets-append}
 
 -- the lengths of a plan's arrays: every plan by value has them
 pub record Arrays (plan : Plan) : Type 0 where
@@ -95,9 +96,9 @@ module _ (plan : Plan) (arrays : Arrays plan) where
   unfolding listOfPlan
   length-list = simp length-append (omega (arith, arrays))
 
--- a number of a part is that of the list
-pub getD-part : (list part : List ℕ) (at n i : ℕ) → take n (drop at list) ≡ part → at ≤ i → i < at + n → getD part (i - at) 0 ≡ getD list i 0
-getD-part list part at n i e low high =
-    let within : i - at < n = omega arith in
-    let sum : at + (i - at) ≡ i = omega arith in
-    rw (← e, getD-take n (drop at list) (i - at) 0 within, getD-drop at list (i - at) 0, sum)
+  -- the parts stored one after the other
+  pub sets-parts : (list : List ℕ)
+      → sets (sets (sets (sets (sets (sets (sets list 0 (plan .d ∷ plan .p ∷ [])) 2 (plan .extents)) 7 (plan .weights)) 12 (plan .cuts)) 17 (plan .cost % 4294967296 ∷ plan .cost / 4294967296 ∷ [])) 19 (plan .moduli)) 24 (plan .matrix)
+      ≡ sets list 0 (listOfPlan plan)
+  unfolding listOfPlan
+  sets-parts list = sym (simp (sets-append, arrays .extents-length, arrays .weights-length, arrays .cuts-length, arrays .moduli-length))

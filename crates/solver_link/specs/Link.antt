@@ -5,10 +5,10 @@ use mathlib.Core.Option.{Option, none, some}
 use mathlib.Core.Path.{_≡_}
 use Prim.Native.Nat.{ℕ, _+_, _*_, _/_, _%_}
 use lib.Dec.{eqb}
-use lib.ListN.{length, getD, take, drop}
+use lib.ListN.{length, getD, take, drop, replicate}
 use Rattle.multipartition.specs.Answers.{Answer, answered, refused, Check, checked}
 use Rattle.multipartition.specs.Jobs.{planAnswer}
-use Rattle.multipartition.specs.Questions.{lengthCheck, ownerAnswer, neighbourAnswer, slabAnswer, slabOfAnswer, chainsAnswer}
+use Rattle.multipartition.specs.Questions.{lengthCheck, ownerAnswer, neighbourAnswer, slabAnswer, slabOfAnswer, numberAnswer, positionAnswer, stepAnswer, chainsAnswer}
 use Rattle.layout.specs.declared.Plan.{Plan}
 use Rattle.layout.specs.Plans.{layoutOf, planOf}
 
@@ -97,6 +97,27 @@ slabLink list k s places =
 unfoldable pub slabOfLink : List ℕ → ℕ → ℕ → ℕ → Answer (List ℕ)
 slabOfLink list k element places =
     checked (planListCheck list ∷ []) (andThen (slabOfAnswer (layoutOf (planIn list)) k element) (λ s. into places (s ∷ [])))
+
+-- the number of the tile at a position
+unfoldable pub tileNumberLink : List ℕ → List ℕ → ℕ → Answer (List ℕ)
+tileNumberLink list position places =
+    checked (planListCheck list ∷ []) (andThen (numberAnswer (layoutOf (planIn list)) position) (λ tile. into places (tile ∷ [])))
+
+-- the position of a tile: its coordinates
+unfoldable pub tilePositionLink : List ℕ → ℕ → ℕ → Answer (List ℕ)
+tilePositionLink list tile places =
+    checked (planListCheck list ∷ []) (andThen (positionAnswer (layoutOf (planIn list)) tile) (λ position. into places position))
+
+-- 1 and the coordinates one step on, or for "edge" as many zeros: d is the number of coordinates
+abbrev pub stepNumbers : ℕ → Option (List ℕ) → List ℕ
+stepNumbers d none = 0 ∷ replicate d 0
+stepNumbers d (some position) = 1 ∷ position
+
+-- the position one step on; a direction other than 0 is up
+unfoldable pub stepLink : List ℕ → List ℕ → ℕ → ℕ → ℕ → Answer (List ℕ)
+stepLink list position k up places =
+    checked (planListCheck list ∷ [])
+    (andThen (stepAnswer (layoutOf (planIn list)) position k (not (eqb up 0))) (λ next. into places (stepNumbers (length position) next)))
 
 -- the chains, for lists of so many places
 unfoldable pub chainsLink : List ℕ → ℕ → ℕ → Answer (List ℕ × List ℕ)

@@ -5,11 +5,16 @@ mod lists; // lists.rt: plans and answers as lists
 use chains::Chained;
 use questions::Neighbour;
 use questions::Owner;
+use tiles::positions;
+use tiles::positions::Lookup;
+use tiles::positions::Position;
+use tiles::positions::Step;
+use tiles::positions::TileNumber;
 use tiles::slabs;
 use tiles::slabs::Elements;
 use tiles::slabs::SlabNumber;
 ghost use lib.ListN.{length};
-ghost use Rattle.solver_link.specs.Link.{planLink, ownerLink, neighbourLink, slabLink, slabOfLink, chainsLink, Linked};
+ghost use Rattle.solver_link.specs.Link.{planLink, ownerLink, neighbourLink, slabLink, slabOfLink, tileNumberLink, tilePositionLink, stepLink, chainsLink, Linked};
 
 // Plans a job: the answer list gets the plan list.
 #[no_mangle]
@@ -109,6 +114,71 @@ pub extern "C" fn multipartition_slab_of(
     match slab {
         SlabNumber::Slab(s) => lists::put_one(answer, s),
         SlabNumber::Refused { number, place } => lists::joined(number, place),
+    }
+}
+
+// The number of the tile at a position: the answer list gets the number.
+#[no_mangle]
+pub extern "C" fn multipartition_tile_number(
+    plan: &[u32],
+    position: &[u32],
+    answer: &mut [u32],
+) -> u64
+    ensures { λ r. ⌜ Linked (tileNumberLink (now (plan .entry)) (now (position .entry)) (length (now (answer .entry)))) (now (answer .entry)) r (now (answer .exit)) ⌝ }
+{
+    if plan.len() != lists::PLAN_LENGTH {
+        return 6;
+    }
+    let tile = lists::position_in(position).number(lists::plan_in(plan));
+    match tile {
+        TileNumber::Tile(t) => lists::put_one(answer, t),
+        TileNumber::Refused { number, place } => lists::joined(number, place),
+    }
+}
+
+// The position of a tile: the answer list gets the coordinates.
+#[no_mangle]
+pub extern "C" fn multipartition_tile_position(plan: &[u32], tile: u32, answer: &mut [u32]) -> u64
+    ensures { λ r. ⌜ Linked (tilePositionLink (now (plan .entry)) tile (length (now (answer .entry)))) (now (answer .entry)) r (now (answer .exit)) ⌝ }
+{
+    if plan.len() != lists::PLAN_LENGTH {
+        return 6;
+    }
+    let located = positions::position_of(lists::plan_in(plan), tile);
+    let lookup = located.lookup;
+    let position = located.position;
+    match lookup {
+        Lookup::Found => lists::put_position(answer, position),
+        Lookup::Refused { number, place } => lists::joined(number, place),
+    }
+}
+
+// The position one step on along a dimension, up unless `up` is 0: the answer list gets 1 and the coordinates, or zeros for the edge.
+#[no_mangle]
+pub extern "C" fn multipartition_step(
+    plan: &[u32],
+    position: &[u32],
+    dimension: u32,
+    up: u32,
+    answer: &mut [u32],
+) -> u64
+    ensures { λ r. ⌜ Linked (stepLink (now (plan .entry)) (now (position .entry)) dimension up (length (now (answer .entry)))) (now (answer .entry)) r (now (answer .exit)) ⌝ }
+{
+    if plan.len() != lists::PLAN_LENGTH {
+        return 6;
+    }
+    let from = lists::position_in(position);
+    let moved = from.step(lists::plan_in(plan), dimension as usize, up != 0);
+    let step = moved.step;
+    let next = moved.position;
+    let edge = Position {
+        d: position.len(),
+        at: [0; 5],
+    };
+    match step {
+        Step::Inside => lists::put_step(answer, 1, next),
+        Step::Edge => lists::put_step(answer, 0, edge),
+        Step::Refused { number, place } => lists::joined(number, place),
     }
 }
 

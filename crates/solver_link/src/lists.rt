@@ -1,24 +1,54 @@
 // Plans and answers as lists of 32-bit numbers.
 use layout::Plan;
+use tiles::positions::Position;
 ghost use mathlib.Core.List.{[], _∷_};
 ghost use mathlib.Core.Path.{_≡_};
 ghost use Prim.Native.Nat.{_+_, _*_, _≤_, _<_};
 ghost use lib.ListN.{length, getD, take, drop};
+ghost use lib.Seq.{sets};
+ghost use Rattle.tiles.specs.Positions.{coordinates, positionWith};
 ghost use Rattle.solver_link.specs.Link.{planIn, listOfPlan, into, Linked};
 
-// How many places a plan list has.
+// Where the parts of a plan list start, and how many places it has.
+const D: usize = 0;
+
+const P: usize = 1;
+
+const EXTENTS: usize = 2;
+
+const WEIGHTS: usize = 7;
+
+const CUTS: usize = 12;
+
+const COST_LOW: usize = 17;
+
+const COST_HIGH: usize = 18;
+
+const MODULI: usize = 19;
+
+const MATRIX: usize = 24;
+
 pub const PLAN_LENGTH: usize = 49;
 
-// Five numbers of a plan list.
+// Numbers into a list, from place `at` on.
+fn put_part(list: &mut [u32], at: usize, part: &[u32])
+    requires { ⌜ at + length (now part) ≤ length (now list) ⌝ }
+    ensures { λ r. ⌜ (now (list .exit) ≡ sets (now (list .entry)) at (now (part .entry))) × (length (now (list .exit)) ≡ length (now (list .entry))) ⌝ }
+{
+    for i in 0..part.len() {
+        let k = at + i;
+        list[k] = part[i];
+    }
+}
+
+// Five numbers of a list, from place `at` on.
 fn five(list: &[u32], at: usize) -> [u32; 5]
     requires { ⌜ at + 5 ≤ length (now list) ⌝ }
     ensures { λ r. ⌜ r ≡ take 5 (drop at (now (list .entry))) ⌝ }
 {
     let mut out = [0u32; 5];
-    for i in 0..5 {
-        let k = at + i;
-        out[i] = list[k];
-    }
+    let end = at + 5;
+    put_part(&mut out, 0, &list[at..end]);
     out
 }
 
@@ -28,10 +58,7 @@ fn matrix_in(list: &[u32]) -> [u32; 25]
     ensures { λ r. ⌜ r ≡ take 25 (drop 24 (now (list .entry))) ⌝ }
 {
     let mut out = [0u32; 25];
-    for i in 0..25 {
-        let k = 24 + i;
-        out[i] = list[k];
-    }
+    put_part(&mut out, 0, &list[MATRIX..PLAN_LENGTH]);
     out
 }
 
@@ -47,13 +74,13 @@ pub fn plan_in(list: &[u32]) -> Plan
     requires { ⌜ length (now list) ≡ 49 ⌝ }
     ensures { λ r. ⌜ r ≡ planIn (now (list .entry)) ⌝ }
 {
-    let d = list[0] as usize;
-    let p = list[1];
-    let extents = five(list, 2);
-    let weights = five(list, 7);
-    let cuts = five(list, 12);
-    let cost = joined(list[17], list[18]);
-    let moduli = five(list, 19);
+    let d = list[D] as usize;
+    let p = list[P];
+    let extents = five(list, EXTENTS);
+    let weights = five(list, WEIGHTS);
+    let cuts = five(list, CUTS);
+    let cost = joined(list[COST_LOW], list[COST_HIGH]);
+    let moduli = five(list, MODULI);
     let matrix = matrix_in(list);
     Plan {
         d: d,
@@ -90,36 +117,58 @@ pub fn put_two(answer: &mut [u32], a: u32, b: u32) -> u64
     0
 }
 
-// The number at a place of a plan's list.
-fn number_at(plan: Plan, i: usize) -> u32
-    requires { ⌜ (plan .d ≤ 5) × (i < 49) ⌝ }
-    ensures { λ r. ⌜ r ≡ getD (listOfPlan plan) i 0 ⌝ }
+// The number at a place of a list, zero past its end.
+fn number_or_zero(list: &[u32], k: usize) -> u32
+    ensures { λ r. ⌜ r ≡ getD (now (list .entry)) k 0 ⌝ }
 {
-    if i == 0 {
-        return plan.d as u32;
+    if k < list.len() {
+        return list[k];
     }
-    if i == 1 {
-        return plan.p;
+    0
+}
+
+// The position of a list of coordinates. Those past the fifth are not kept: with so many, it lies in no grid.
+pub fn position_in(list: &[u32]) -> Position
+    ensures { λ r. ⌜ r ≡ positionWith (now (list .entry)) ⌝ }
+{
+    let i1 = number_or_zero(list, 0);
+    let i2 = number_or_zero(list, 1);
+    let i3 = number_or_zero(list, 2);
+    let i4 = number_or_zero(list, 3);
+    let i5 = number_or_zero(list, 4);
+    Position {
+        d: list.len(),
+        at: [i1, i2, i3, i4, i5],
     }
-    if i < 7 {
-        return plan.extents[i - 2];
+}
+
+// A position's coordinates into an answer list, likewise.
+pub fn put_position(answer: &mut [u32], position: Position) -> u64
+    requires { ⌜ position .d ≤ 5 ⌝ }
+    ensures { λ r. ⌜ Linked (into (length (now (answer .entry))) (coordinates position)) (now (answer .entry)) r (now (answer .exit)) ⌝ }
+{
+    let d = position.d;
+    if answer.len() != d {
+        return 9;
     }
-    if i < 12 {
-        return plan.weights[i - 7];
+    let at = position.at;
+    put_part(answer, 0, &at[..d]);
+    0
+}
+
+// A number and a position's coordinates into an answer list, likewise.
+pub fn put_step(answer: &mut [u32], inside: u32, position: Position) -> u64
+    requires { ⌜ position .d ≤ 5 ⌝ }
+    ensures { λ r. ⌜ Linked (into (length (now (answer .entry))) (inside ∷ coordinates position)) (now (answer .entry)) r (now (answer .exit)) ⌝ }
+{
+    let d = position.d;
+    if answer.len() != d + 1 {
+        return 9;
     }
-    if i < 17 {
-        return plan.cuts[i - 12];
-    }
-    if i == 17 {
-        return (plan.cost % 4294967296) as u32;
-    }
-    if i == 18 {
-        return (plan.cost / 4294967296) as u32;
-    }
-    if i < 24 {
-        return plan.moduli[i - 19];
-    }
-    plan.matrix[i - 24]
+    answer[0] = inside;
+    let at = position.at;
+    put_part(answer, 1, &at[..d]);
+    0
 }
 
 // A plan into an answer list, likewise. A planned d fits 32 bits.
@@ -130,8 +179,17 @@ pub fn put_plan(list: &mut [u32], plan: Plan) -> u64
     if list.len() != PLAN_LENGTH {
         return 9;
     }
-    for i in 0..PLAN_LENGTH {
-        list[i] = number_at(plan, i);
-    }
+    let d = plan.d as u32;
+    let front = [d, plan.p];
+    let low = (plan.cost % 4294967296) as u32;
+    let high = (plan.cost / 4294967296) as u32;
+    let cost = [low, high];
+    put_part(list, D, &front);
+    put_part(list, EXTENTS, &plan.extents);
+    put_part(list, WEIGHTS, &plan.weights);
+    put_part(list, CUTS, &plan.cuts);
+    put_part(list, COST_LOW, &cost);
+    put_part(list, MODULI, &plan.moduli);
+    put_part(list, MATRIX, &plan.matrix);
     0
 }

@@ -1,8 +1,8 @@
 -- `solver_link::lists::put_one` meets its contract. Assumes nothing.
 use borrow.Author.Needs.{needs}
 use mathlib.Core.List.{[], _∷_}
+use mathlib.Core.Path.{refl}
 use Rattle.solver_link.proofs.Answers.{linked-into, linked-length}
-use Rattle.solver_link.proofs.Fill.{set-one}
 use Rattle.solver_link.proofs.lists.put_one.Statement.{statement}
 use Rattle.solver_link.proofs.lists.put_one.Tie as tie
 
@@ -16,7 +16,7 @@ same-length : tie.Need-same-length
 same-length c = search needs
 
 returns-2 : tie.Need-returns-2
-returns-2 c = linked-into (c .before .args .answer .now) _ _ (c .if1 .left) (set-one (c .before .args .answer .now) _ (c .if1 .left))
+returns-2 c = linked-into (c .before .args .answer .now) (c .before .args .number ∷ []) _ (c .if1 .left) refl
 
 pub put-one-spec : {M : Type 1} → statement M
 put-one-spec = tie.close (tie.spec returns slice-write-answer same-length returns-2)

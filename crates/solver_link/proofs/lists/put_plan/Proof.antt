@@ -1,92 +1,114 @@
--- `solver_link::lists::put_plan` meets its contract. The invariant: the front of the list holds the first i numbers of the plan's list.
--- Assumes nothing.
+-- `solver_link::lists::put_plan` meets its contract. Assumes nothing.
 use borrow.Author.Needs.{needs}
-use mathlib.Core.List.{List, [], _++_, append-nil}
-use mathlib.Core.Path.{_≡_, refl, sym, ap, _∙_}
-use Prim.Native.Nat.{ℕ, _-_, _≤_}
+use mathlib.Core.Path.{sym, _∙_}
 use native.Mathlib.Omega.{arith}
-use lib.ListN.{length, take, drop, length-set}
-use lib.Seq.{take-all, drop-length}
 use Rattle.solver_link.specs.Link.{listOfPlan}
 use Rattle.solver_link.proofs.Answers.{linked-into, linked-length}
-use Rattle.solver_link.proofs.Fill.{fill-next}
-use Rattle.solver_link.proofs.Plans.{Arrays, length-list}
+use Rattle.solver_link.proofs.Plans.{Arrays, length-list, sets-parts}
 use Rattle.solver_link.proofs.lists.put_plan.Statement.{statement}
 use Rattle.solver_link.proofs.lists.put_plan.Tie as tie
 
-abbrev Inv-loop : tie.InvT-loop
-Inv-loop list₀ plan i₀ list i = (i ≤ 49) × (length list ≡ 49) × (list ≡ take i (listOfPlan plan) ++ drop i list₀)
-
-abbrev μ-loop : tie.MeasureT-loop
-μ-loop list₀ plan i₀ list i = 49 - i
-
-returns : tie.Need-returns Inv-loop μ-loop
+returns : tie.Need-returns
 returns c =
     let a = c .before .before .args in
-    let arrays : Arrays (a .plan) = search needs in
-    linked-length (a .list .now) (listOfPlan (a .plan)) (λ e. c .if1 .taken (e ∙ length-list (a .plan) arrays))
+    let arrays : Arrays (a .t2) = search needs in
+    linked-length (a .list .now) (listOfPlan (a .t2)) (λ e. c .if1 .taken (e ∙ length-list (a .t2) arrays))
 
-loop-holds : tie.Need-loop-holds Inv-loop μ-loop
-loop-holds c = (omega arith, c .if1 .left, refl)
+cast-d : tie.Need-cast-d
+cast-d c = search needs
 
-number-at-requires : tie.Need-number-at-requires Inv-loop μ-loop
-number-at-requires c κs = search needs
+cast-low : tie.Need-cast-low
+cast-low c = search needs
 
-mul-list : tie.Need-mul-list Inv-loop μ-loop
-mul-list c = search needs
+cast-high : tie.Need-cast-high
+cast-high c = search needs
 
-slice-write-list : tie.Need-slice-write-list Inv-loop μ-loop
-slice-write-list c = search needs
+slice-aggregate-put-part : tie.Need-slice-aggregate-put-part
+slice-aggregate-put-part c = search needs
 
-add-i : tie.Need-add-i Inv-loop μ-loop
-add-i c = search needs
+put-part-requires : tie.Need-put-part-requires
+put-part-requires c κs = search needs
 
-loop-less : tie.Need-loop-less Inv-loop μ-loop
-loop-less c = search needs
+put-part-requires-2 : tie.Need-put-part-requires-2
+put-part-requires-2 c κs = search needs
 
-loop-again : tie.Need-loop-again Inv-loop μ-loop
-loop-again c =
-    let l = c .before .before .loop in
-    let a = c .before .before .before .before .before .args in
-    let arrays : Arrays (a .plan) = search needs in
-    let length-of = length-list (a .plan) arrays in (
-      omega arith,
-      length-set (l .list) (l .i) (c .number-at .result) ∙ l .inv .1,
-      rw (l .inv .2, c .number-at .ensures) (fill-next (listOfPlan (a .plan)) (a .list .now) (l .i) (omega arith) (omega arith)),
-    )
+put-part-requires-3 : tie.Need-put-part-requires-3
+put-part-requires-3 c κs = search needs
 
-same-length : tie.Need-same-length Inv-loop μ-loop
-same-length c = search needs
+put-part-requires-4 : tie.Need-put-part-requires-4
+put-part-requires-4 c κs = search needs
 
-returns-2 : tie.Need-returns-2 Inv-loop μ-loop
+slice-aggregate-put-part-2 : tie.Need-slice-aggregate-put-part-2
+slice-aggregate-put-part-2 c = search needs
+
+put-part-requires-5 : tie.Need-put-part-requires-5
+put-part-requires-5 c κs = search needs
+
+put-part-requires-6 : tie.Need-put-part-requires-6
+put-part-requires-6 c κs = search needs
+
+put-part-requires-7 : tie.Need-put-part-requires-7
+put-part-requires-7 c κs =
+    let s6 = c .before .before .before .before .before .before in
+    let s5 = s6 .before .before .before .before .before .before .before in
+    let s4 = s5 .before .before .before .before .before in
+    let s3 = s4 .before .before .before .before .before .before .before in
+    let s2 = s3 .before .before .before .before .before .before .before in
+    let s1 = s2 .before .before .before .before .before .before .before in
+    let kept = s6 .put-part6 .ensures .1 ∙ s5 .put-part5 .ensures .1 ∙ s4 .put-part4 .ensures .1 ∙ s3 .put-part3 .ensures .1 ∙ s2 .put-part2 .ensures .1 ∙ s1 .put-part .ensures .1 ∙ s1 .before .before .before .if1 .left in
+    let arrays : Arrays (s1 .before .before .before .before .before .args .t2) = search needs in
+    omega (arith, kept, arrays .matrix-length)
+
+same-length : tie.Need-same-length
+same-length c =
+    let s7 = c .before .before in
+    let s6 = s7 .before .before .before .before .before .before .before in
+    let s5 = s6 .before .before .before .before .before .before .before in
+    let s4 = s5 .before .before .before .before .before in
+    let s3 = s4 .before .before .before .before .before .before .before in
+    let s2 = s3 .before .before .before .before .before .before .before in
+    let s1 = s2 .before .before .before .before .before .before .before in
+    s7 .put-part7 .ensures .1 ∙ s6 .put-part6 .ensures .1 ∙ s5 .put-part5 .ensures .1 ∙ s4 .put-part4 .ensures .1 ∙ s3 .put-part3 .ensures .1 ∙ s2 .put-part2 .ensures .1 ∙ s1 .put-part .ensures .1
+
+returns-2 : tie.Need-returns-2
 returns-2 c =
-    let a = c .before .before .before .before .args in
-    let l = c .before .loop in
-    let arrays : Arrays (a .plan) = search needs in
-    let length-of = length-list (a .plan) arrays in
-    let first : length (a .list .now) ≡ 49 = omega arith in
-    let all : l .i ≡ 49 = omega arith in
-    linked-into (a .list .now) (listOfPlan (a .plan)) (l .list) (first ∙ sym length-of)
-    (l .inv .2
-    ∙ ap (λ (k : ℕ). take k (listOfPlan (a .plan)) ++ drop k (a .list .now)) all
-    ∙ rw (take-all 49 (listOfPlan (a .plan)) (omega arith), drop-all (a .list .now) first) (append-nil (listOfPlan (a .plan))))
-  where
-    drop-all : (xs : List ℕ) → length xs ≡ 49 → drop 49 xs ≡ []
-    drop-all xs e = ap (λ (k : ℕ). drop k xs) (sym e) ∙ drop-length xs
+    let s7 = c .before .before in
+    let s6 = s7 .before .before .before .before .before .before .before in
+    let s5 = s6 .before .before .before .before .before .before .before in
+    let s4 = s5 .before .before .before .before .before in
+    let s3 = s4 .before .before .before .before .before .before .before in
+    let s2 = s3 .before .before .before .before .before .before .before in
+    let s1 = s2 .before .before .before .before .before .before .before in
+    let a = s1 .before .before .before .before .before .args in
+    let arrays : Arrays (a .t2) = search needs in
+    linked-into (a .list .now) (listOfPlan (a .t2)) _ (s1 .before .before .before .if1 .left ∙ sym (length-list (a .t2) arrays))
+    (s7 .put-part7 .ensures .0
+    ∙ rw (
+      s6 .put-part6 .ensures .0,
+      s5 .put-part5 .ensures .0,
+      s4 .put-part4 .ensures .0,
+      s3 .put-part3 .ensures .0,
+      s2 .put-part2 .ensures .0,
+      s1 .put-part .ensures .0,
+    )
+    (sets-parts (a .t2) arrays (a .list .now)))
 
 pub put-plan-spec : {M : Type 1} → statement M
 put-plan-spec =
     tie.close
     (tie.spec
-    Inv-loop
-    μ-loop
     returns
-    loop-holds
-    number-at-requires
-    mul-list
-    slice-write-list
-    add-i
-    loop-less
-    loop-again
+    cast-d
+    cast-low
+    cast-high
+    slice-aggregate-put-part
+    put-part-requires
+    put-part-requires-2
+    put-part-requires-3
+    put-part-requires-4
+    slice-aggregate-put-part-2
+    put-part-requires-5
+    put-part-requires-6
+    put-part-requires-7
     same-length
     returns-2)

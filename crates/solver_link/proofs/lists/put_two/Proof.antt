@@ -1,8 +1,8 @@
 -- `solver_link::lists::put_two` meets its contract. Assumes nothing.
 use borrow.Author.Needs.{needs}
 use mathlib.Core.List.{[], _∷_}
+use mathlib.Core.Path.{refl}
 use Rattle.solver_link.proofs.Answers.{linked-into, linked-length}
-use Rattle.solver_link.proofs.Fill.{set-two}
 use Rattle.solver_link.proofs.lists.put_two.Statement.{statement}
 use Rattle.solver_link.proofs.lists.put_two.Tie as tie
 
@@ -19,7 +19,7 @@ same-length : tie.Need-same-length
 same-length c = search needs
 
 returns-2 : tie.Need-returns-2
-returns-2 c = linked-into (c .before .args .answer .now) _ _ (c .if1 .left) (set-two (c .before .args .answer .now) _ _ (c .if1 .left))
+returns-2 c = linked-into (c .before .args .answer .now) (c .before .args .a ∷ c .before .args .b ∷ []) _ (c .if1 .left) refl
 
 pub put-two-spec : {M : Type 1} → statement M
 put-two-spec =

@@ -1,0 +1,115 @@
+-- Positions over the link. A list of more than five coordinates does not fit a position by value; it lies in no grid, so that the questions
+-- turn it down all the same.
+use mathlib.Core.Path.{_≡_, refl, sym, ap, _∙_}
+use mathlib.Core.Bool.{Bool, true, false}
+use mathlib.Core.List.{List, [], _∷_}
+use mathlib.Core.Option.{Option, some}
+use Prim.Native.Nat.{ℕ, zero, suc, _-_, _≤_}
+use native.Mathlib.Decide.{decLe}
+use native.Mathlib.Omega.{arith}
+use lib.ListN.{length, getD, take, replicate}
+use lib.Seq.{take-append-le}
+use Rattle.multipartition.specs.Answers.{Answer, answered}
+use Rattle.multipartition.specs.Plans.{inShape, between, tilesOf}
+use Rattle.multipartition.specs.Tiles.{isInside, positionOf, oneStepOn}
+use Rattle.multipartition.specs.Questions.{numberAnswer, positionAnswer, stepAnswer}
+use Rattle.multipartition.proofs.Answers.{answered-iff, answered-injective}
+use Rattle.multipartition.proofs.MixedRadix.{length-digits}
+use Rattle.multipartition.proofs.Tiles.{inside-of-test, inside-length, one-step-on-inside}
+use Rattle.layout.specs.declared.Plan.{Plan}
+use Rattle.layout.specs.Plans.{layoutOf, five}
+use Rattle.layout.proofs.Places.{cuts-length}
+use Rattle.layout.specs.Shaped.{Shaped}
+use Rattle.layout.proofs.Positions.{outside-by-length, in-grid}
+use Rattle.layout.proofs.Shaped.{shaped}
+use Rattle.tiles.specs.declared.positions.Position.{Position}
+use Rattle.tiles.specs.declared.positions.Step.{Step}
+use Rattle.tiles.specs.declared.positions.Moved.{Moved}
+use Rattle.tiles.specs.Answers.{toldStep, Moves}
+use Rattle.tiles.specs.Positions.{coordinates, positionWith}
+use Rattle.tiles.proofs.Coordinates.{length-coordinates, coordinates-with}
+
+-- five numbers of a list, zero past its end
+pub five-numbers : (xs : List ℕ) → getD xs 0 0 ∷ getD xs 1 0 ∷ getD xs 2 0 ∷ getD xs 3 0 ∷ getD xs 4 0 ∷ [] ≡ five xs
+five-numbers [] = refl
+five-numbers (a ∷ []) = refl
+five-numbers (a ∷ b ∷ []) = refl
+five-numbers (a ∷ b ∷ c ∷ []) = refl
+five-numbers (a ∷ b ∷ c ∷ d ∷ []) = refl
+five-numbers (a ∷ b ∷ c ∷ d ∷ e ∷ more) = refl
+
+-- the coordinates of a position by value
+pub coordinates-front : (position : Position) → position .d ≤ length (position .at) → coordinates position ≡ take (position .d) (position .at)
+unfolding coordinates
+coordinates-front position few = take-append-le (position .d) (position .at) (replicate (position .d) 0) few
+
+pub coordinates-zero : (d : ℕ) → d ≤ 5 → coordinates (record { d = d; at = replicate 5 0 }) ≡ replicate d 0
+coordinates-zero d few = coordinates-front (record { d = d; at = replicate 5 0 }) few ∙ take-zeros d 5 few
+  where
+    take-zeros : (n m : ℕ) → n ≤ m → take {A = ℕ} n (replicate m 0) ≡ replicate n 0
+    take-zeros zero m l = refl
+    take-zeros (suc n) zero l = absurd (omega arith)
+    take-zeros (suc n) (suc m) l = ap (λ (zeros : List ℕ). 0 ∷ zeros) (take-zeros n m (omega arith))
+
+module _ (plan : Plan) (xs : List ℕ) where
+  abbrev inGrid : List ℕ → Bool
+  inGrid position = isInside (layoutOf plan .cuts) position
+
+  -- a question asked of the position by value is asked of the list
+  asked-with : {A : Type 0} (asked : List ℕ → Answer A)
+      → (inShape (layoutOf plan) ≡ false → (ys zs : List ℕ) → asked ys ≡ asked zs)
+      → ((ys zs : List ℕ) → inGrid ys ≡ false → inGrid zs ≡ false → asked ys ≡ asked zs)
+      → asked (coordinates (positionWith xs)) ≡ asked xs
+  asked-with asked misshapen outside = by-length (decLe (length xs) 5)
+    where
+      by-shape : (length xs ≤ 5 → ⊥) → (b : Bool) → inShape (layoutOf plan) ≡ b → asked (coordinates (positionWith xs)) ≡ asked xs
+      by-shape many false e = misshapen e (coordinates (positionWith xs)) xs
+      by-shape many true e =
+          let s = shaped plan e in
+          outside (coordinates (positionWith xs)) xs
+          (outside-by-length plan s (coordinates (positionWith xs)) (λ same. many (omega (arith, length-coordinates (positionWith xs), s .d-high))))
+          (outside-by-length plan s xs (λ same. many (omega (arith, s .d-high))))
+
+      by-length : Dec (length xs ≤ 5) → asked (coordinates (positionWith xs)) ≡ asked xs
+      by-length (yes few) = ap asked (coordinates-with xs few)
+      by-length (no many) = by-shape many (inShape (layoutOf plan)) refl
+
+  pub number-with : numberAnswer (layoutOf plan) (coordinates (positionWith xs)) ≡ numberAnswer (layoutOf plan) xs
+  unfolding numberAnswer
+  number-with = asked-with (numberAnswer (layoutOf plan)) (λ e ys zs. rw e) (λ ys zs e f. rw (e, f))
+
+  pub step-told : (k : ℕ) (up : Bool) (moved : Moved) (step : Step) → Moves (stepAnswer (layoutOf plan) (coordinates (positionWith xs)) k up) moved
+      → moved .step ≡ step → stepAnswer (layoutOf plan) xs k up ≡ toldStep step (coordinates (moved .position))
+  unfolding stepAnswer
+  step-told k up moved step answers e =
+      sym (asked-with (λ ys. stepAnswer (layoutOf plan) ys k up) (λ e ys zs. rw e) (λ ys zs e f. rw (e, f)))
+      ∙ sym (answers .told)
+      ∙ ap (λ (s : Step). toldStep s (coordinates (moved .position))) e
+
+-- an answered position has d coordinates, at most five
+pub position-few : (plan : Plan) (tile : ℕ) (xs : List ℕ) → positionAnswer (layoutOf plan) tile ≡ answered xs → length xs ≤ 5
+unfolding positionAnswer positionOf
+position-few plan tile xs e =
+    let shape = answered-iff (inShape (layoutOf plan)) 6 0 _ xs .0 e in
+    let s = shaped plan (shape .0) in
+    let found = answered-iff (between 1 (tilesOf (layoutOf plan)) tile) 8 0 (answered (positionOf (layoutOf plan .cuts) tile)) xs .0 (shape .1) in
+    let same = ap length (answered-injective _ _ (found .1)) in
+    omega (arith, length-digits (layoutOf plan .cuts) (tile - 1), cuts-length plan s, s .d-high)
+
+module _ (plan : Plan) (xs : List ℕ) (k : ℕ) (up : Bool) (next : Option (List ℕ)) (e : stepAnswer (layoutOf plan) xs k up ≡ answered next) where
+  step-passed : (Shaped plan) × (inGrid plan xs xs ≡ true) × (oneStepOn (layoutOf plan .cuts) (k - 1) up xs ≡ next)
+  unfolding stepAnswer
+  step-passed =
+      let shape = answered-iff (inShape (layoutOf plan)) 6 0 _ next .0 e in
+      let dimension = answered-iff (between 1 (layoutOf plan .d) k) 7 0 _ next .0 (shape .1) in
+      let inside = answered-iff (isInside (layoutOf plan .cuts) xs) 8 0 (answered (oneStepOn (layoutOf plan .cuts) (k - 1) up xs)) next .0 (dimension .1) in
+      (shaped plan (shape .0), inside .0, answered-injective _ _ (inside .1))
+
+  pub step-few : length xs ≤ 5
+  step-few = omega (arith, in-grid plan (step-passed .0) xs (step-passed .1) .coordinates, step-passed .0 .d-high)
+
+  pub step-next-few : (ys : List ℕ) → next ≡ some ys → length ys ≤ 5
+  step-next-few ys is-some =
+      let cuts = layoutOf plan .cuts in
+      let inside = one-step-on-inside cuts xs ys (k - 1) up (inside-of-test cuts xs (step-passed .1)) (step-passed .2 ∙ is-some) in
+      omega (arith, inside-length cuts ys inside, cuts-length plan (step-passed .0), step-passed .0 .d-high)
