@@ -1,61 +1,28 @@
 //! Chains without a division for each tile.
 //!
-//! All ways walk the tiles downward: a tile's next is what its owner's head was, and the tile
-//! becomes the head. [`by_neighbours`] finds the owner of the tile one down from a list of downward
-//! neighbours, one look for each tile. The others use that in the planner's plans the owners along
-//! the last dimension are consecutive numbers: [`by_counting`] counts the owner down from tile to
-//! tile, and for [`by_runs`] a row of tiles is a few runs of heads, each copied and then counted out.
+//! Both ways walk the tiles downward: a tile's next is what its owner's head was, and the tile becomes the
+//! head. [`Runs`] uses that in the planner's plans the owners along the last dimension are consecutive
+//! numbers: a row of tiles is a few runs of heads, each copied and then counted out. [`Single`], for other
+//! plans, finds the owner of the tile one down from a list of downward neighbours.
 
 use crate::plan_list::{
-    in_shape, of_length, tiles, PlanList, CUTS, DIMENSIONS, MATRIX, MODULI, PROCESSORS, ROW_LENGTH,
+    checked, tiles, PlanList, CUTS, DIMENSIONS, MATRIX, MODULI, PROCESSORS, ROW_LENGTH,
 };
+use crate::subject::Told;
 
-/// One downward neighbour for each tile.
-pub fn by_neighbours(plan: &[u32], heads: &mut [u32], nexts: &mut [u32]) -> u32 {
-    match check(plan, heads, nexts) {
-        Ok(plan) => {
-            heads.fill(0);
-            walk(plan, nexts.len(), &mut Single::new(plan, heads, nexts));
-            0
-        }
-        Err(number) => number,
+/// A run of heads at a time where the plan allows it, else one tile at a time.
+pub fn chains(plan: &[u32], heads: &mut [u32], nexts: &mut [u32]) -> Told {
+    let plan = checked(plan)?;
+    if heads.len() != plan[PROCESSORS] as usize || nexts.len() != tiles(plan) as usize {
+        return Err(9);
     }
-}
-
-/// The owner counted down tile by tile where the plan allows it, else as [`by_neighbours`].
-pub fn by_counting(plan: &[u32], heads: &mut [u32], nexts: &mut [u32]) -> u32 {
-    match check(plan, heads, nexts) {
-        Ok(plan) if consecutive(plan) => {
-            heads.fill(0);
-            walk(plan, nexts.len(), &mut Counting { plan, heads, nexts });
-            0
-        }
-        Ok(plan) => by_neighbours(plan, heads, nexts),
-        Err(number) => number,
-    }
-}
-
-/// A run of heads at a time where the plan allows it, else as [`by_neighbours`].
-pub fn by_runs(plan: &[u32], heads: &mut [u32], nexts: &mut [u32]) -> u32 {
-    match check(plan, heads, nexts) {
-        Ok(plan) if consecutive(plan) => {
-            heads.fill(0);
-            walk(plan, nexts.len(), &mut Runs { plan, heads, nexts });
-            0
-        }
-        Ok(plan) => by_neighbours(plan, heads, nexts),
-        Err(number) => number,
-    }
-}
-
-/// Refusals 6 and 9.
-fn check<'a>(plan: &'a [u32], heads: &[u32], nexts: &[u32]) -> Result<&'a PlanList, u32> {
-    let plan = of_length(plan).filter(|plan| in_shape(plan)).ok_or(6u32)?;
-    if heads.len() == plan[PROCESSORS] as usize && nexts.len() == tiles(plan) as usize {
-        Ok(plan)
+    heads.fill(0);
+    if consecutive(plan) {
+        walk(plan, nexts.len(), &mut Runs { plan, heads, nexts });
     } else {
-        Err(9)
+        walk(plan, nexts.len(), &mut Single::new(plan, heads, nexts));
     }
+    Ok(())
 }
 
 /// Does one step along the last dimension add one to the last coordinate and to no other?
@@ -170,31 +137,6 @@ impl Rows for Single<'_> {
     }
 }
 
-struct Counting<'a> {
-    plan: &'a PlanList,
-    heads: &'a mut [u32],
-    nexts: &'a mut [u32],
-}
-
-impl Rows for Counting<'_> {
-    #[inline]
-    fn row(&mut self, before: usize, coordinates: &[u32; 5]) {
-        let last = self.plan[DIMENSIONS] as usize - 1;
-        let length = self.plan[CUTS + last] as usize;
-        let modulus = self.plan[MODULI + last] as usize;
-        let mut c = coordinates[last] as usize;
-        let base = number_of(self.plan, coordinates) as usize - c;
-        let heads = &mut self.heads[base..base + modulus];
-        let mut tile = (before + length) as u32;
-        for next in self.nexts[before..before + length].iter_mut().rev() {
-            *next = heads[c];
-            heads[c] = tile;
-            c = if c == 0 { modulus - 1 } else { c - 1 };
-            tile -= 1;
-        }
-    }
-}
-
 struct Runs<'a> {
     plan: &'a PlanList,
     heads: &'a mut [u32],
@@ -239,7 +181,7 @@ mod tests {
     use oracle::random::Random;
 
     #[test]
-    fn all_ways_leave_the_oracles_lists() {
+    fn both_ways_leave_the_oracles_lists() {
         let mut random = Random::new(14);
         let mut runs = 0;
         for _ in 0..3000 {
@@ -268,23 +210,19 @@ mod tests {
             let tiles = plan.tiles() as usize;
             let mut expected = (vec![7; p as usize], vec![7; tiles]);
             oracle::chains::chains(&plan, &mut expected.0, &mut expected.1).unwrap();
-            for chains in [by_neighbours, by_counting, by_runs] {
-                let mut lists = (vec![7; p as usize], vec![7; tiles]);
-                assert_eq!(chains(&list, &mut lists.0, &mut lists.1), 0);
-                assert_eq!(lists, expected, "{plan:?}");
-            }
+            let mut lists = (vec![7; p as usize], vec![7; tiles]);
+            assert_eq!(chains(&list, &mut lists.0, &mut lists.1), Ok(()));
+            assert_eq!(lists, expected, "{plan:?}");
         }
-        assert!(runs > 1000);
+        assert!((1000..2500).contains(&runs), "{runs}");
     }
 
     #[test]
     fn refused_lists_keep_their_contents() {
         let list = list_of(&plan_job(4, 3, &[8; 3], &[1; 3]).unwrap());
-        for chains in [by_neighbours, by_counting, by_runs] {
-            let (mut heads, mut nexts) = ([7; 4], [7; 9]);
-            assert_eq!(chains(&list, &mut heads, &mut nexts), 9);
-            assert_eq!(chains(&list[1..], &mut heads, &mut nexts), 6);
-            assert_eq!((heads, nexts), ([7; 4], [7; 9]));
-        }
+        let (mut heads, mut nexts) = ([7; 4], [7; 9]);
+        assert_eq!(chains(&list, &mut heads, &mut nexts), Err(9));
+        assert_eq!(chains(&list[1..], &mut heads, &mut nexts), Err(6));
+        assert_eq!((heads, nexts), ([7; 4], [7; 9]));
     }
 }

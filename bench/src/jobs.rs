@@ -5,38 +5,51 @@ pub use link::questions::Job;
 use oracle::plan::{plan_job, Plan};
 use oracle::random::Random;
 
+/// One job for every p up to 4,096, all weights 1, on a roomy grid.
+pub fn weights_one(d: u32) -> Vec<Job> {
+    let job = |p| roomy(p, &vec![1; d as usize]);
+    (1..=4096).map(job).collect()
+}
+
+/// One job for every p up to 4,096, the weights and extents of many kinds.
+pub fn other_weights(seed: u64, d: u32) -> Vec<Job> {
+    let mut random = Random::new(seed);
+    let job = |p| Job {
+        p,
+        d,
+        weights: weights(&mut random, d),
+        extents: extents(&mut random, p, d),
+    };
+    (1..=4096).map(job).collect()
+}
+
 /// One job for every p up to 4,096 and every d, the weights and extents of many kinds.
 pub fn mix(seed: u64) -> Vec<Job> {
-    let mut random = Random::new(seed);
-    let mut jobs = Vec::new();
-    for p in 1..=4096 {
-        for d in 2..=5 {
-            let weights = weights(&mut random, d);
-            let extents = extents(&mut random, p, d);
-            jobs.push(Job {
-                p,
-                d,
-                extents,
-                weights,
-            });
-        }
+    (2..=5).flat_map(|d| other_weights(seed, d)).collect()
+}
+
+/// A job on a grid in which all cuts fit.
+fn roomy(p: u32, weights: &[u32]) -> Job {
+    Job {
+        p,
+        d: weights.len() as u32,
+        extents: vec![1_000_000; weights.len()],
+        weights: weights.to_vec(),
     }
-    jobs
 }
 
 fn weights(random: &mut Random, d: u32) -> Vec<u32> {
-    let kind = random.between(0, 7);
+    let kind = random.between(0, 6);
     let huge = random.between(0, u64::from(d) - 1) as u32;
     (0..d)
         .map(|k| match kind {
-            0 => 1,
-            1 => 0,
-            2 => random.draw() as u32,
-            3 => 10u32.pow(k),
-            4 => 10u32.pow(d - 1 - k),
-            5 if k == huge => u32::MAX,
-            5 => 1,
-            6 => u32::MAX,
+            0 => 0,
+            1 => random.draw() as u32,
+            2 => 10u32.pow(k),
+            3 => 10u32.pow(d - 1 - k),
+            4 if k == huge => u32::MAX,
+            4 => 1,
+            5 => u32::MAX,
             _ => random.between(0, 99) as u32,
         })
         .collect()
@@ -100,18 +113,22 @@ pub fn hard() -> Vec<Job> {
 
 /// Three dimensions: the counts with most divisors.
 pub fn three_dimensions() -> Vec<Job> {
-    let mut jobs = Vec::new();
-    for p in [1680, 2520, 3360, 3600, 3780, 3960, 4032] {
-        for weights in [[1, 1, 1], [1, 10, 100], [100, 10, 1], [3, 1000, 17]] {
-            jobs.push(Job {
-                p,
-                d: 3,
-                extents: vec![1_000_000; 3],
-                weights: weights.to_vec(),
-            });
-        }
-    }
-    jobs
+    let counts = [1680, 2520, 3360, 3600, 3780, 3960, 4032];
+    let weights = [[1, 1, 1], [1, 10, 100], [100, 10, 1], [3, 1000, 17]];
+    let jobs = |p| weights.map(|weights| roomy(p, &weights));
+    counts.into_iter().flat_map(jobs).collect()
+}
+
+/// The job whose printed plan is longest.
+pub fn largest() -> Job {
+    roomy(4096, &[1; 5])
+}
+
+/// The job as the program reads it.
+pub fn line(job: &Job) -> String {
+    let numbers = [&[job.p, job.d], &job.extents[..], &job.weights[..]].concat();
+    let words: Vec<String> = numbers.iter().map(u32::to_string).collect();
+    words.join(" ") + "\n"
 }
 
 /// A question of each kind about one plan, all to be answered.
@@ -123,6 +140,7 @@ pub struct Question {
     pub up: bool,
     pub slab: u32,
     pub element: u32,
+    pub tile: u32,
 }
 
 /// Questions about some plans of every d.
@@ -151,6 +169,7 @@ pub fn questions(seed: u64, count: usize) -> Vec<Question> {
                 up: random.once_in(2),
                 slab: below(&mut random, plan.cuts[k]),
                 element: below(&mut random, plan.extents[k]),
+                tile: 1 + below(&mut random, plan.tiles() as u32),
             }
         })
         .collect()

@@ -3,8 +3,14 @@
 use link::calls;
 
 use crate::plan_list::PLAN_LENGTH;
-use crate::planning::Planned;
-use crate::subject::Subject;
+use crate::subject::{Planned, Subject, Told};
+
+fn told(returned: u64) -> Told {
+    match returned {
+        0 => Ok(()),
+        refused => Err(refused as u32),
+    }
+}
 
 fn plan(p: u32, d: u32, extents: &[u32], weights: &[u32]) -> Planned {
     let mut list = [0; PLAN_LENGTH];
@@ -14,33 +20,34 @@ fn plan(p: u32, d: u32, extents: &[u32], weights: &[u32]) -> Planned {
     }
 }
 
-fn owner(plan: &[u32], position: &[u32], answer: &mut [u32]) -> u32 {
-    calls::owner(plan, position, answer) as u32
-}
-
-fn neighbour(plan: &[u32], q: u32, dimension: u32, up: bool, answer: &mut [u32]) -> u32 {
-    calls::neighbour(plan, q, dimension, u32::from(up), answer) as u32
-}
-
-fn slab_elements(plan: &[u32], dimension: u32, slab: u32, answer: &mut [u32]) -> u32 {
-    calls::slab(plan, dimension, slab, answer) as u32
-}
-
-fn slab_of(plan: &[u32], dimension: u32, element: u32, answer: &mut [u32]) -> u32 {
-    calls::slab_of(plan, dimension, element, answer) as u32
-}
-
-fn chains(plan: &[u32], heads: &mut [u32], nexts: &mut [u32]) -> u32 {
-    calls::chains(plan, heads, nexts) as u32
-}
-
 /// The proved planner.
 pub const PROVED: Subject = Subject {
     name: "proved",
     plan,
-    owner,
-    neighbour,
-    slab_elements,
-    slab_of,
-    chains,
+    owner: |plan, position, answer| told(calls::owner(plan, position, answer)),
+    neighbour: |plan, processor, dimension, up, answer| {
+        told(calls::neighbour(
+            plan,
+            processor,
+            dimension,
+            u32::from(up),
+            answer,
+        ))
+    },
+    slab: |plan, dimension, slab, answer| told(calls::slab(plan, dimension, slab, answer)),
+    slab_of: |plan, dimension, element, answer| {
+        told(calls::slab_of(plan, dimension, element, answer))
+    },
+    tile_number: |plan, position, answer| told(calls::tile_number(plan, position, answer)),
+    tile_position: |plan, tile, answer| told(calls::tile_position(plan, tile, answer)),
+    step: |plan, position, dimension, up, answer| {
+        told(calls::step(
+            plan,
+            position,
+            dimension,
+            u32::from(up),
+            answer,
+        ))
+    },
+    chains: |plan, heads, nexts| told(calls::chains(plan, heads, nexts)),
 };

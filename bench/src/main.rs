@@ -12,13 +12,10 @@ use std::process::{Command, ExitCode, Stdio};
 
 use bench::jobs::{self, Job, Question};
 use bench::linked::PROVED;
-use bench::planning::{self, Planned};
-use bench::subject::{Subject, RIVAL};
-use bench::timing::{
-    contest, contest_of_commands, least_seconds, print_head, print_line, shown, Contest,
-};
-
-type PlanCall = fn(u32, u32, &[u32], &[u32]) -> Planned;
+use bench::plan_list::PROCESSORS;
+use bench::planning;
+use bench::subject::{PlanCall, Subject, Told, RIVAL};
+use bench::timing::{contest, contest_of_commands, least_seconds, print_head, print_line, Contest};
 
 struct Request {
     repeats: usize,
@@ -46,208 +43,250 @@ fn main() -> ExitCode {
         eprintln!("usage: bench [--repeats N] [--program PATH]");
         return ExitCode::from(2);
     };
-    let subject = PROVED;
-    print_head(subject.name, RIVAL.name);
-    plans(&subject, request.repeats);
-    planning_otherwise(&subject, request.repeats);
-    questions(&subject, request.repeats);
-    chains(&subject, request.repeats);
+    let repeats = request.repeats;
+    print_head(PROVED.name, RIVAL.name);
+    plans(repeats);
+    planning_otherwise(repeats);
+    longest_jobs();
+    questions(repeats);
+    chains(repeats);
     if let Some(program) = &request.program {
-        print_line(&largest_plan(&subject, program, request.repeats));
+        print_line(&largest_plan(program, repeats));
     }
-    println!();
-    single_jobs(&subject);
     ExitCode::SUCCESS
 }
 
 /// Plans a job and sums up the answer.
-fn plan(subject: &Subject, job: &Job) -> u64 {
-    match black_box(subject.plan)(job.p, job.d, &job.extents, &job.weights) {
+fn plan(plan: PlanCall, job: &Job) -> u64 {
+    match black_box(plan)(job.p, job.d, &job.extents, &job.weights) {
         Ok(list) => list.iter().map(|&n| u64::from(n)).sum(),
         Err((number, place)) => u64::from(number * 8 + place),
     }
 }
 
-fn plan_all(subject: &Subject, jobs: &[Job]) -> u64 {
-    jobs.iter().map(|job| plan(subject, job)).sum()
+/// The same jobs planned by both sides, whose plans are compared first.
+fn contest_of_plans(
+    what: &str,
+    target: Option<f64>,
+    repeats: usize,
+    jobs: &[Job],
+    rival: PlanCall,
+) -> Contest {
+    for Job {
+        p,
+        d,
+        extents,
+        weights,
+    } in jobs
+    {
+        let ours = (PROVED.plan)(*p, *d, extents, weights);
+        let theirs = rival(*p, *d, extents, weights);
+        assert!(ours == theirs, "{p} {d} {extents:?} {weights:?}");
+    }
+    let all = |call: PlanCall| jobs.iter().map(|job| plan(call, job)).sum();
+    contest(
+        what,
+        target,
+        jobs.len(),
+        repeats,
+        || all(PROVED.plan),
+        || all(rival),
+    )
 }
 
-fn plans(subject: &Subject, repeats: usize) {
-    let mix = jobs::mix(1);
-    let mut rows = vec![(
-        "planning, every p and d".to_string(),
-        Some(1.0),
-        mix.clone(),
-    )];
-    for d in 2..=5 {
-        let part = mix.iter().filter(|job| job.d == d).cloned().collect();
-        rows.push((format!("planning, every p, d = {d}"), None, part));
-    }
-    rows.push((
-        "planning, d = 3, many divisors".to_string(),
-        None,
-        jobs::three_dimensions(),
-    ));
-    rows.push(("planning, d = 5, hard jobs".to_string(), None, jobs::hard()));
-    for (what, target, jobs) in rows {
-        for Job {
-            p,
-            d,
-            extents,
-            weights,
-        } in &jobs
-        {
-            let ours = (subject.plan)(*p, *d, extents, weights);
-            let theirs = (RIVAL.plan)(*p, *d, extents, weights);
-            assert!(ours == theirs, "{p} {d} {extents:?} {weights:?}");
+/// The mean over every p, with all weights 1 and with others.
+fn plans(repeats: usize) {
+    for (d, target) in [(2, 4.0), (3, 1.4), (4, 0.5), (5, 0.15)] {
+        for (kind, jobs) in [
+            ("weights 1", jobs::weights_one(d)),
+            ("other weights", jobs::other_weights(1, d)),
+        ] {
+            let what = format!("planning, d = {d}, {kind}");
+            print_line(&contest_of_plans(
+                &what,
+                Some(target),
+                repeats,
+                &jobs,
+                RIVAL.plan,
+            ));
         }
-        print_line(&contest(
-            &what,
-            target,
-            jobs.len(),
-            repeats,
-            || plan_all(subject, &jobs),
-            || plan_all(&RIVAL, &jobs),
-        ));
     }
 }
 
-/// The same mix beside quicker ways to write the paper's enumeration.
-fn planning_otherwise(subject: &Subject, repeats: usize) {
+/// The mix of every p and d beside quicker ways to plan.
+fn planning_otherwise(repeats: usize) {
     let mix = jobs::mix(1);
-    let others: [(&str, PlanCall); 2] = [
+    let others: [(&str, Option<f64>, PlanCall); 3] = [
         (
             "planning, beside each factor's list made once",
+            Some(1.1),
             planning::figure_2,
         ),
         (
             "planning, beside the same leaving early",
+            None,
             planning::figure_2_leaving_early,
         ),
-    ];
-    for (what, plan) in others {
-        let other = Subject { plan, ..RIVAL };
-        print_line(&contest(
-            what,
+        (
+            "planning, beside the proved search in Rust",
             None,
-            mix.len(),
-            repeats.min(5),
-            || plan_all(subject, &mix),
-            || plan_all(&other, &mix),
-        ));
+            planning::remembered,
+        ),
+    ];
+    for (what, target, rival) in others {
+        print_line(&contest_of_plans(what, target, repeats.min(5), &mix, rival));
     }
 }
 
-fn questions(subject: &Subject, repeats: usize) {
+/// The longest single job of each side, each job by the least time of some runs.
+fn longest_jobs() {
+    let longest = |call: PlanCall, jobs: &[Job]| {
+        let times = jobs.iter().map(|job| least_seconds(5, || plan(call, job)));
+        times.fold(0.0, f64::max)
+    };
+    for (what, target, jobs) in [
+        ("longest job", 0.25, jobs::hard()),
+        ("longest job of d = 3", 1.2, jobs::three_dimensions()),
+    ] {
+        let ours = longest(PROVED.plan, &jobs);
+        let rivals: [(&str, Option<f64>, PlanCall); 2] = [
+            ("", Some(target), RIVAL.plan),
+            (
+                ", beside each factor's list made once",
+                None,
+                planning::figure_2,
+            ),
+        ];
+        for (beside, target, rival) in rivals {
+            print_line(&Contest {
+                what: format!("{what}{beside}"),
+                ours: vec![ours],
+                theirs: vec![longest(rival, &jobs)],
+                target,
+            });
+        }
+    }
+}
+
+type Ask = fn(&Subject, &Question) -> u64;
+
+/// Each question, with its target.
+const ASKED: [(&str, f64, Ask); 7] = [
+    ("owner", 1.0, |side, asked| {
+        let ask = black_box(side.owner);
+        told([0], |answer| ask(&asked.plan, &asked.position, answer))
+    }),
+    ("neighbour", 1.1, |side, asked| {
+        let ask = black_box(side.neighbour);
+        told([0; 2], |answer| {
+            ask(
+                &asked.plan,
+                asked.processor,
+                asked.dimension,
+                asked.up,
+                answer,
+            )
+        })
+    }),
+    ("elements of a slab", 1.1, |side, asked| {
+        let ask = black_box(side.slab);
+        told([0; 2], |answer| {
+            ask(&asked.plan, asked.dimension, asked.slab, answer)
+        })
+    }),
+    ("slab of an element", 1.1, |side, asked| {
+        let ask = black_box(side.slab_of);
+        told([0], |answer| {
+            ask(&asked.plan, asked.dimension, asked.element, answer)
+        })
+    }),
+    ("number of a tile", 1.1, |side, asked| {
+        let ask = black_box(side.tile_number);
+        told([0], |answer| ask(&asked.plan, &asked.position, answer))
+    }),
+    ("position of a tile", 1.1, |side, asked| {
+        let ask = black_box(side.tile_position);
+        told([0; 5], |answer| {
+            ask(&asked.plan, asked.tile, &mut answer[..asked.position.len()])
+        })
+    }),
+    ("one step on", 1.1, |side, asked| {
+        let ask = black_box(side.step);
+        told([0; 6], |answer| {
+            ask(
+                &asked.plan,
+                &asked.position,
+                asked.dimension,
+                asked.up,
+                &mut answer[..1 + asked.position.len()],
+            )
+        })
+    }),
+];
+
+/// Lends an answer list, and sums up what it then holds.
+fn told<const N: usize>(mut answer: [u32; N], ask: impl FnOnce(&mut [u32]) -> Told) -> u64 {
+    match ask(&mut answer) {
+        Ok(()) => answer
+            .iter()
+            .fold(1, |sum: u64, &n| sum.wrapping_mul(31) + u64::from(n)),
+        Err(number) => u64::from(number) << 32,
+    }
+}
+
+fn questions(repeats: usize) {
     let asked = jobs::questions(2, 20_000);
-    type Ask = fn(&Subject, &Question) -> u64;
-    let rows: [(&str, Ask); 4] = [
-        ("owner", ask_owner),
-        ("neighbour", ask_neighbour),
-        ("elements of a slab", ask_slab_elements),
-        ("slab of an element", ask_slab_of),
-    ];
-    for (what, ask) in rows {
+    for (what, target, ask) in ASKED {
         for (at, question) in asked.iter().enumerate() {
-            let same = ask(subject, question) == ask(&RIVAL, question);
+            let same = ask(&PROVED, question) == ask(&RIVAL, question);
             assert!(same, "{what}: question {at} is answered otherwise");
         }
-        let all = |side: &Subject| asked.iter().map(|question| ask(side, question)).sum();
+        let all = |side: &Subject| {
+            let answers = asked.iter().map(|question| ask(side, question));
+            answers.fold(0, u64::wrapping_add)
+        };
         print_line(&contest(
             what,
-            Some(1.2),
+            Some(target),
             asked.len(),
             repeats,
-            || all(subject),
+            || all(&PROVED),
             || all(&RIVAL),
         ));
     }
 }
 
-fn ask_owner(side: &Subject, question: &Question) -> u64 {
-    let mut answer = [0];
-    let refused = black_box(side.owner)(&question.plan, &question.position, &mut answer);
-    u64::from(refused + answer[0])
-}
-
-fn ask_neighbour(side: &Subject, question: &Question) -> u64 {
-    let mut answer = [0; 2];
-    let Question {
-        processor,
-        dimension,
-        up,
-        ..
-    } = *question;
-    let ask = black_box(side.neighbour);
-    let refused = ask(&question.plan, processor, dimension, up, &mut answer);
-    u64::from(refused + answer[0] * 8192 + answer[1])
-}
-
-fn ask_slab_elements(side: &Subject, question: &Question) -> u64 {
-    let mut answer = [0; 2];
-    let ask = black_box(side.slab_elements);
-    let refused = ask(
-        &question.plan,
-        question.dimension,
-        question.slab,
-        &mut answer,
-    );
-    u64::from(refused) + u64::from(answer[0]) * 8192 + u64::from(answer[1])
-}
-
-fn ask_slab_of(side: &Subject, question: &Question) -> u64 {
-    let mut answer = [0];
-    let ask = black_box(side.slab_of);
-    let refused = ask(
-        &question.plan,
-        question.dimension,
-        question.element,
-        &mut answer,
-    );
-    u64::from(refused + answer[0])
-}
-
-fn chains(subject: &Subject, repeats: usize) {
-    let mut heads = vec![0; 4096];
-    let mut nexts = vec![0; 16_777_216];
-    let mut other_heads = heads.clone();
-    let mut other_nexts = nexts.clone();
+fn chains(repeats: usize) {
+    let mut ours = (vec![0; 4096], vec![0; 16_777_216]);
+    let mut theirs = ours.clone();
     for (what, plan) in jobs::largest_grids() {
-        let p = plan[bench::plan_list::PROCESSORS] as usize;
-        let fill = |side: &Subject, heads: &mut [u32], nexts: &mut [u32]| {
-            let refused = black_box(side.chains)(&plan, &mut heads[..p], nexts);
+        let p = plan[PROCESSORS] as usize;
+        let fill = |side: &Subject, (heads, nexts): &mut (Vec<u32>, Vec<u32>)| {
+            let told = black_box(side.chains)(&plan, &mut heads[..p], nexts);
+            assert_eq!(told, Ok(()), "{what}");
             // Some of the answers; all of them are compared below.
-            u64::from(refused) + u64::from(heads[p - 1]) + u64::from(nexts[123_456])
+            u64::from(heads[p - 1]) + u64::from(nexts[123_456])
         };
         let row = contest(
             what,
-            Some(1.5),
+            Some(1.2),
             1,
             repeats,
-            || fill(subject, &mut heads, &mut nexts),
-            || fill(&RIVAL, &mut other_heads, &mut other_nexts),
+            || fill(&PROVED, &mut ours),
+            || fill(&RIVAL, &mut theirs),
         );
-        assert!(
-            heads[..p] == other_heads[..p] && nexts == other_nexts,
-            "{what}"
-        );
+        assert!(ours == theirs, "{what}");
         print_line(&row);
     }
 }
 
 /// The program on its largest plan, beside `cat` of the same bytes plus the planning time.
-fn largest_plan(subject: &Subject, program: &str, repeats: usize) -> Contest {
-    let job = Job {
-        p: 4096,
-        d: 5,
-        extents: vec![1_000_000; 5],
-        weights: vec![1; 5],
-    };
+fn largest_plan(program: &str, repeats: usize) -> Contest {
+    let job = jobs::largest();
     let folder = env::temp_dir();
     let input = folder.join(format!("largest-job-{}", std::process::id()));
     let output = folder.join(format!("largest-plan-{}", std::process::id()));
-    let line = "4096 5 1000000 1000000 1000000 1000000 1000000 1 1 1 1 1\n";
-    fs::write(&input, line).expect("the job is written");
+    fs::write(&input, jobs::line(&job)).expect("the job is written");
     let printed = Command::new(program)
         .stdin(File::open(&input).expect("the job is read"))
         .output()
@@ -266,38 +305,11 @@ fn largest_plan(subject: &Subject, program: &str, repeats: usize) -> Contest {
         4 * repeats,
         || run(Command::new(program), &input),
         || {
-            black_box(plan(subject, &job));
+            black_box(plan(PROVED.plan, &job));
             run(Command::new("cat"), &output);
         },
     );
     let _ = fs::remove_file(&input);
     let _ = fs::remove_file(&output);
     row
-}
-
-/// The longest single jobs: the least of some runs of each.
-fn single_jobs(subject: &Subject) {
-    for (what, jobs, limit) in [
-        ("longest job", jobs::hard(), 2e-3),
-        ("longest job of d = 3", jobs::three_dimensions(), 1e-4),
-    ] {
-        for side in [subject, &RIVAL] {
-            let times = jobs
-                .iter()
-                .map(|job| (least_seconds(5, || plan(side, job)), job));
-            let (time, job) = times
-                .max_by(|a, b| a.0.total_cmp(&b.0))
-                .expect("there are jobs");
-            let verdict = if time <= limit { "met" } else { "NOT MET" };
-            println!(
-                "{what}, {}: {} (limit {}, {verdict}): p = {}, extents {:?}, weights {:?}",
-                side.name,
-                shown(time),
-                shown(limit),
-                job.p,
-                job.extents,
-                job.weights,
-            );
-        }
-    }
 }

@@ -1,17 +1,28 @@
-//! What the rivals ask of a plan list: its length, its shape, its tiles. Its places are named in tests/link.
+//! What the rivals ask of a plan list: its length, its shape, its dimensions, its tiles. Its places are named in tests/link.
 
 pub use link::plan_list::{
     list_of, PlanList, COST_HIGH, COST_LOW, CUTS, DIMENSIONS, EXTENTS, MATRIX, MODULI, PLAN_LENGTH,
     PROCESSORS, ROW_LENGTH, WEIGHTS,
 };
 
-/// The list as an array of the right length, or nothing.
+/// Refusal 6: the list as an array of the right length, in shape.
 #[inline]
-pub fn of_length(list: &[u32]) -> Option<&PlanList> {
-    list.try_into().ok()
+pub fn checked(list: &[u32]) -> Result<&PlanList, u32> {
+    let list: Option<&PlanList> = list.try_into().ok();
+    list.filter(|plan| in_shape(plan)).ok_or(6)
 }
 
-/// Refusal 6: is the plan in shape?
+/// Refusal 7, and the dimension's place counted from 0.
+#[inline]
+pub fn dimension_at(plan: &PlanList, dimension: u32) -> Result<usize, u32> {
+    if 1 <= dimension && dimension <= plan[DIMENSIONS] {
+        Ok(dimension as usize - 1)
+    } else {
+        Err(7)
+    }
+}
+
+/// Is the plan in shape?
 #[inline]
 pub fn in_shape(plan: &PlanList) -> bool {
     let d = plan[DIMENSIONS] as usize;

@@ -5,14 +5,15 @@
 //! [`figure_2_nested`] is the same with the paper's program run anew for every combination.
 //! [`remembered`] chooses the cuts dimension after dimension and remembers its answers.
 
-use crate::plan_list::{self, PlanList};
+use crate::plan_list::{
+    COST_HIGH, COST_LOW, CUTS, DIMENSIONS, EXTENTS, MATRIX, MODULI, PLAN_LENGTH, PROCESSORS,
+    ROW_LENGTH, WEIGHTS,
+};
+use crate::subject::Planned;
 
 mod figure_2;
 mod nested;
 mod remembered;
-
-/// A refusal's number and place, or a plan.
-pub type Planned = Result<PlanList, (u32, u32)>;
 
 /// A job with its lists in five places each, zero past d.
 struct Job {
@@ -81,21 +82,21 @@ fn check(p: u32, d: u32, extents: &[u32], weights: &[u32]) -> Result<Job, (u32, 
 fn finish(job: &Job, chosen: Option<(u64, Cuts)>) -> Planned {
     let (cost, cuts) = chosen.ok_or((5, 0))?;
     let d = job.d;
-    let mut plan = [0; plan_list::PLAN_LENGTH];
-    plan[plan_list::DIMENSIONS] = d as u32;
-    plan[plan_list::PROCESSORS] = job.p;
-    plan[plan_list::EXTENTS..][..5].copy_from_slice(&job.extents);
-    plan[plan_list::WEIGHTS..][..5].copy_from_slice(&job.weights);
-    plan[plan_list::CUTS..][..5].copy_from_slice(&cuts);
-    plan[plan_list::COST_LOW] = cost as u32;
-    plan[plan_list::COST_HIGH] = (cost >> 32) as u32;
+    let mut plan = [0; PLAN_LENGTH];
+    plan[DIMENSIONS] = d as u32;
+    plan[PROCESSORS] = job.p;
+    plan[EXTENTS..][..5].copy_from_slice(&job.extents);
+    plan[WEIGHTS..][..5].copy_from_slice(&job.weights);
+    plan[CUTS..][..5].copy_from_slice(&cuts);
+    plan[COST_LOW] = cost as u32;
+    plan[COST_HIGH] = (cost >> 32) as u32;
     let mut moduli = [0; 5];
     let mut left = job.p;
     for k in (0..d).rev() {
         moduli[k] = gcd(left, cuts[k]);
         left /= moduli[k];
     }
-    plan[plan_list::MODULI..][..5].copy_from_slice(&moduli);
+    plan[MODULI..][..5].copy_from_slice(&moduli);
     let mut rows = [[0i64; 5]; 5];
     for i in 0..d {
         rows[i][0] = 1;
@@ -113,7 +114,7 @@ fn finish(job: &Job, chosen: Option<(u64, Cuts)>) -> Planned {
     for i in 0..d {
         for k in 0..d {
             let entry = rows[i][k].rem_euclid(i64::from(moduli[i]));
-            plan[plan_list::MATRIX + plan_list::ROW_LENGTH * i + k] = entry as u32;
+            plan[MATRIX + ROW_LENGTH * i + k] = entry as u32;
         }
     }
     Ok(plan)

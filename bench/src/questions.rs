@@ -1,32 +1,35 @@
-//! The owner, neighbour and slab questions over plain lists, with the checks of document 01 in its
-//! order: 6 for the plan, 7 for the dimension, 8 for the other numbers, 9 for the answer list.
-//!
-//! Each call returns the refusal's number, or 0 with the answer in the lent list.
+//! The questions over plain lists, with the checks of document 01 in its order: 6 for the plan, 7 for the
+//! dimension, 8 for the other numbers, 9 for the answer list.
 
 use crate::plan_list::{
-    in_shape, of_length, CUTS, DIMENSIONS, EXTENTS, MATRIX, MODULI, PROCESSORS, ROW_LENGTH,
+    checked, dimension_at, tiles, PlanList, CUTS, DIMENSIONS, EXTENTS, MATRIX, MODULI, PROCESSORS,
+    ROW_LENGTH,
 };
+use crate::subject::Told;
 
-/// The owner of a position; the answer is one number.
-pub fn owner(plan: &[u32], position: &[u32], answer: &mut [u32]) -> u32 {
-    let Some(plan) = of_length(plan) else {
-        return 6;
-    };
-    if !in_shape(plan) {
-        return 6;
-    }
+/// Refusal 8 for a position: d coordinates, each below its cut.
+#[inline]
+fn check_position(plan: &PlanList, position: &[u32]) -> Told {
     let d = plan[DIMENSIONS] as usize;
     if position.len() != d {
-        return 8;
+        return Err(8);
     }
     for k in 0..d {
         if position[k] >= plan[CUTS + k] {
-            return 8;
+            return Err(8);
         }
     }
+    Ok(())
+}
+
+/// The owner of a position; the answer is one number.
+pub fn owner(plan: &[u32], position: &[u32], answer: &mut [u32]) -> Told {
+    let plan = checked(plan)?;
+    check_position(plan, position)?;
     let [processor] = answer else {
-        return 9;
+        return Err(9);
     };
+    let d = plan[DIMENSIONS] as usize;
     let mut number = 0;
     for i in 0..d {
         let row = &plan[MATRIX + ROW_LENGTH * i..][..ROW_LENGTH];
@@ -39,7 +42,7 @@ pub fn owner(plan: &[u32], position: &[u32], answer: &mut [u32]) -> u32 {
         number = number * modulus + sum % modulus;
     }
     *processor = number;
-    0
+    Ok(())
 }
 
 /// The neighbour of a processor; the answer is 1 and the processor, or 0 0 for "no neighbour".
@@ -49,32 +52,23 @@ pub fn neighbour(
     dimension: u32,
     up: bool,
     answer: &mut [u32],
-) -> u32 {
-    let Some(plan) = of_length(plan) else {
-        return 6;
-    };
-    if !in_shape(plan) {
-        return 6;
-    }
-    let d = plan[DIMENSIONS] as usize;
-    if dimension == 0 || dimension > plan[DIMENSIONS] {
-        return 7;
-    }
+) -> Told {
+    let plan = checked(plan)?;
+    let k = dimension_at(plan, dimension)?;
     if processor >= plan[PROCESSORS] {
-        return 8;
+        return Err(8);
     }
     let [found, next] = answer else {
-        return 9;
+        return Err(9);
     };
-    let k = dimension as usize - 1;
     if plan[CUTS + k] == 1 {
         (*found, *next) = (0, 0);
-        return 0;
+        return Ok(());
     }
     let mut left = processor;
     let mut worth = 1;
     let mut number = 0;
-    for i in (0..d).rev() {
+    for i in (0..plan[DIMENSIONS] as usize).rev() {
         let modulus = plan[MODULI + i];
         let c = left % modulus;
         left /= modulus;
@@ -90,54 +84,100 @@ pub fn neighbour(
         worth *= modulus;
     }
     (*found, *next) = (1, number);
-    0
+    Ok(())
 }
 
 /// A slab's first element and the one after its last.
-pub fn slab_elements(plan: &[u32], dimension: u32, slab: u32, answer: &mut [u32]) -> u32 {
-    let Some(plan) = of_length(plan) else {
-        return 6;
-    };
-    if !in_shape(plan) {
-        return 6;
-    }
-    if dimension == 0 || dimension > plan[DIMENSIONS] {
-        return 7;
-    }
-    let k = dimension as usize - 1;
+pub fn slab(plan: &[u32], dimension: u32, slab: u32, answer: &mut [u32]) -> Told {
+    let plan = checked(plan)?;
+    let k = dimension_at(plan, dimension)?;
     let (extent, cut) = (plan[EXTENTS + k], plan[CUTS + k]);
     if slab >= cut {
-        return 8;
+        return Err(8);
     }
     let [first, after] = answer else {
-        return 9;
+        return Err(9);
     };
     // At most 4,096 times 1,000,000.
     (*first, *after) = (slab * extent / cut, (slab + 1) * extent / cut);
-    0
+    Ok(())
 }
 
 /// The slab of an element.
-pub fn slab_of(plan: &[u32], dimension: u32, element: u32, answer: &mut [u32]) -> u32 {
-    let Some(plan) = of_length(plan) else {
-        return 6;
-    };
-    if !in_shape(plan) {
-        return 6;
-    }
-    if dimension == 0 || dimension > plan[DIMENSIONS] {
-        return 7;
-    }
-    let k = dimension as usize - 1;
+pub fn slab_of(plan: &[u32], dimension: u32, element: u32, answer: &mut [u32]) -> Told {
+    let plan = checked(plan)?;
+    let k = dimension_at(plan, dimension)?;
     let (extent, cut) = (plan[EXTENTS + k], plan[CUTS + k]);
     if element >= extent {
-        return 8;
+        return Err(8);
     }
     let [slab] = answer else {
-        return 9;
+        return Err(9);
     };
     *slab = ((element + 1) * cut - 1) / extent;
-    0
+    Ok(())
+}
+
+/// The number of the tile at a position.
+pub fn tile_number(plan: &[u32], position: &[u32], answer: &mut [u32]) -> Told {
+    let plan = checked(plan)?;
+    check_position(plan, position)?;
+    let [tile] = answer else {
+        return Err(9);
+    };
+    let mut before = 0;
+    for k in 0..plan[DIMENSIONS] as usize {
+        before = before * plan[CUTS + k] + position[k];
+    }
+    *tile = before + 1;
+    Ok(())
+}
+
+/// The position of a tile.
+pub fn tile_position(plan: &[u32], tile: u32, answer: &mut [u32]) -> Told {
+    let plan = checked(plan)?;
+    let mut before = tile.wrapping_sub(1);
+    if before >= tiles(plan) {
+        return Err(8);
+    }
+    let d = plan[DIMENSIONS] as usize;
+    if answer.len() != d {
+        return Err(9);
+    }
+    for k in (0..d).rev() {
+        let cut = plan[CUTS + k];
+        answer[k] = before % cut;
+        before /= cut;
+    }
+    Ok(())
+}
+
+/// The position one step on: 1 and the position, or zeros at the edge.
+pub fn step(plan: &[u32], position: &[u32], dimension: u32, up: bool, answer: &mut [u32]) -> Told {
+    let plan = checked(plan)?;
+    let k = dimension_at(plan, dimension)?;
+    check_position(plan, position)?;
+    let Some((inside, moved)) = answer.split_first_mut() else {
+        return Err(9);
+    };
+    if moved.len() != position.len() {
+        return Err(9);
+    }
+    // Below 0 is far above the cut.
+    let coordinate = if up {
+        position[k] + 1
+    } else {
+        position[k].wrapping_sub(1)
+    };
+    if coordinate < plan[CUTS + k] {
+        *inside = 1;
+        moved.copy_from_slice(position);
+        moved[k] = coordinate;
+    } else {
+        *inside = 0;
+        moved.fill(0);
+    }
+    Ok(())
 }
 
 #[cfg(test)]
@@ -146,7 +186,8 @@ mod tests {
     use crate::plan_list::list_of;
     use oracle::plan::{plan_job, Plan};
     use oracle::random::Random;
-    use oracle::{neighbours, owners, slabs};
+    use oracle::refusal::Refusal;
+    use oracle::{neighbours, owners, slabs, tiles};
 
     fn any_plan(random: &mut Random) -> Plan {
         let d = random.between(2, 5) as usize;
@@ -168,10 +209,23 @@ mod tests {
         plan
     }
 
+    /// The call's answer in a list of so many places is the expected one.
+    fn same(
+        places: usize,
+        call: impl FnOnce(&mut [u32]) -> Told,
+        expected: Result<Vec<u32>, Refusal>,
+    ) {
+        let mut answer = vec![7; places];
+        let told = call(&mut answer);
+        match expected {
+            Ok(numbers) => assert_eq!((told, answer), (Ok(()), numbers)),
+            Err(refusal) => assert_eq!((told, answer), (Err(refusal.number), vec![7; places])),
+        }
+    }
+
     #[test]
     fn answers_as_the_oracle_gives_them() {
         let mut random = Random::new(13);
-        let number = |refusal: oracle::refusal::Refusal| refusal.number;
         for _ in 0..20_000 {
             let plan = any_plan(&mut random);
             let list = list_of(&plan);
@@ -180,45 +234,64 @@ mod tests {
             let position: Vec<u32> = (0..length)
                 .map(|k| random.between(0, u64::from(plan.cuts[k])) as u32)
                 .collect();
-            let mut one = [0];
-            let told = owner(&list, &position, &mut one);
-            match owners::owner(&plan, &position).map_err(number) {
-                Ok(processor) => assert_eq!((told, one[0]), (0, processor)),
-                Err(refused) => assert_eq!(told, refused),
-            }
             let dimension = random.between(0, d as u64 + 1) as u32;
             let processor = random.between(0, u64::from(plan.p)) as u32;
             let up = random.once_in(2);
-            let mut two = [7; 2];
-            let told = neighbour(&list, processor, dimension, up, &mut two);
-            match neighbours::neighbour(&plan, processor, dimension, up).map_err(number) {
-                Ok(Some(next)) => assert_eq!((told, two), (0, [1, next])),
-                Ok(None) => assert_eq!((told, two), (0, [0, 0])),
-                Err(refused) => assert_eq!(told, refused),
-            }
-            let slab = random.between(0, 60) as u32;
-            let told = slab_elements(&list, dimension, slab, &mut two);
-            match slabs::elements(&plan, dimension, slab).map_err(number) {
-                Ok((first, after)) => assert_eq!((told, two), (0, [first, after])),
-                Err(refused) => assert_eq!(told, refused),
-            }
+            let number = random.between(0, 60) as u32;
             let element = random.between(0, 200) as u32;
-            let told = slab_of(&list, dimension, element, &mut one);
-            match slabs::slab_of(&plan, dimension, element).map_err(number) {
-                Ok(slab) => assert_eq!((told, one[0]), (0, slab)),
-                Err(refused) => assert_eq!(told, refused),
-            }
+            let tile = random.between(0, plan.tiles() as u64 + 1) as u32;
+            same(
+                1,
+                |answer| owner(&list, &position, answer),
+                owners::owner(&plan, &position).map(|q| vec![q]),
+            );
+            same(
+                2,
+                |answer| neighbour(&list, processor, dimension, up, answer),
+                neighbours::neighbour(&plan, processor, dimension, up)
+                    .map(|next| next.map_or(vec![0, 0], |q| vec![1, q])),
+            );
+            same(
+                2,
+                |answer| slab(&list, dimension, number, answer),
+                slabs::elements(&plan, dimension, number).map(|(first, after)| vec![first, after]),
+            );
+            same(
+                1,
+                |answer| slab_of(&list, dimension, element, answer),
+                slabs::slab_of(&plan, dimension, element).map(|s| vec![s]),
+            );
+            same(
+                1,
+                |answer| tile_number(&list, &position, answer),
+                tiles::number(&plan, &position).map(|t| vec![t]),
+            );
+            same(
+                d,
+                |answer| tile_position(&list, tile, answer),
+                tiles::position(&plan, tile),
+            );
+            same(
+                1 + d,
+                |answer| step(&list, &position, dimension, up, answer),
+                tiles::step(&plan, &position, dimension, up)
+                    .map(|moved| moved.map_or(vec![0; 1 + d], |at| [vec![1], at].concat())),
+            );
         }
     }
 
     #[test]
     fn lists_of_another_length() {
         let list = list_of(&plan_job(4, 3, &[8; 3], &[1; 3]).unwrap());
-        assert_eq!(owner(&list[1..], &[0, 0, 0], &mut [0]), 6);
-        assert_eq!(owner(&list, &[0, 0, 0], &mut [0; 2]), 9);
-        assert_eq!(neighbour(&list, 4, 1, true, &mut [0]), 8);
-        assert_eq!(neighbour(&list, 3, 1, true, &mut [0]), 9);
-        assert_eq!(slab_elements(&list, 1, 0, &mut [0]), 9);
-        assert_eq!(slab_of(&list, 1, 0, &mut []), 9);
+        assert_eq!(owner(&list[1..], &[0, 0, 0], &mut [0]), Err(6));
+        assert_eq!(owner(&list, &[0, 0, 0], &mut [0; 2]), Err(9));
+        assert_eq!(neighbour(&list, 4, 1, true, &mut [0]), Err(8));
+        assert_eq!(neighbour(&list, 3, 1, true, &mut [0]), Err(9));
+        assert_eq!(slab(&list, 1, 0, &mut [0]), Err(9));
+        assert_eq!(slab_of(&list, 1, 0, &mut []), Err(9));
+        assert_eq!(tile_number(&list, &[0, 0, 0], &mut []), Err(9));
+        assert_eq!(tile_position(&list, 8, &mut [0; 4]), Err(9));
+        assert_eq!(step(&list, &[0, 0, 0], 3, true, &mut []), Err(9));
+        assert_eq!(step(&list, &[0, 0, 0], 3, true, &mut [0; 3]), Err(9));
     }
 }

@@ -1,18 +1,30 @@
 //! What is measured: the calls of one side, as functions over plain lists.
 
-use crate::planning::Planned;
+use crate::plan_list::PlanList;
 use crate::{chains, planning, questions};
+
+/// A refusal's number, or nothing where the answer list has been written.
+pub type Told = Result<(), u32>;
+
+/// A refusal's number and place, or a plan.
+pub type Planned = Result<PlanList, (u32, u32)>;
+
+pub type PlanCall = fn(u32, u32, &[u32], &[u32]) -> Planned;
+pub type StepCall = fn(&[u32], &[u32], u32, bool, &mut [u32]) -> Told;
 
 /// The calls of one side. Another program is measured by one more value of this kind.
 #[derive(Clone, Copy)]
 pub struct Subject {
     pub name: &'static str,
-    pub plan: fn(u32, u32, &[u32], &[u32]) -> Planned,
-    pub owner: fn(&[u32], &[u32], &mut [u32]) -> u32,
-    pub neighbour: fn(&[u32], u32, u32, bool, &mut [u32]) -> u32,
-    pub slab_elements: fn(&[u32], u32, u32, &mut [u32]) -> u32,
-    pub slab_of: fn(&[u32], u32, u32, &mut [u32]) -> u32,
-    pub chains: fn(&[u32], &mut [u32], &mut [u32]) -> u32,
+    pub plan: PlanCall,
+    pub owner: fn(&[u32], &[u32], &mut [u32]) -> Told,
+    pub neighbour: fn(&[u32], u32, u32, bool, &mut [u32]) -> Told,
+    pub slab: fn(&[u32], u32, u32, &mut [u32]) -> Told,
+    pub slab_of: fn(&[u32], u32, u32, &mut [u32]) -> Told,
+    pub tile_number: fn(&[u32], &[u32], &mut [u32]) -> Told,
+    pub tile_position: fn(&[u32], u32, &mut [u32]) -> Told,
+    pub step: StepCall,
+    pub chains: fn(&[u32], &mut [u32], &mut [u32]) -> Told,
 }
 
 /// The rival: the paper's enumeration (Figure 2, one factor inside the other), the questions with the same checks, and the fastest chains.
@@ -21,7 +33,10 @@ pub const RIVAL: Subject = Subject {
     plan: planning::figure_2_nested,
     owner: questions::owner,
     neighbour: questions::neighbour,
-    slab_elements: questions::slab_elements,
+    slab: questions::slab,
     slab_of: questions::slab_of,
-    chains: chains::by_runs,
+    tile_number: questions::tile_number,
+    tile_position: questions::tile_position,
+    step: questions::step,
+    chains: chains::chains,
 };

@@ -121,26 +121,31 @@ pub fn shown(seconds: f64) -> String {
 /// The head of the table.
 pub fn print_head(ours: &str, theirs: &str) {
     println!(
-        "{:<44} {ours:>12} {theirs:>12} {:>7} {:>15} {:>7}",
+        "{:<57} {ours:>12} {theirs:>12} {:>7} {:>15} {:>7}",
         "what", "ratio", "middle half", "target"
     );
 }
 
 /// One line of the table.
 pub fn print_line(contest: &Contest) {
-    let (low, high) = contest.spread();
+    let spread = match contest.ours.len() {
+        1 => String::new(),
+        _ => {
+            let (low, high) = contest.spread();
+            format!("{low:.2} .. {high:.2}")
+        }
+    };
     let verdict = match contest.target {
         None => String::new(),
         Some(target) if contest.ratio() <= target => format!("{target:>7.2} met"),
         Some(target) => format!("{target:>7.2} NOT MET"),
     };
     println!(
-        "{:<44} {:>12} {:>12} {:>7.2} {:>15} {verdict}",
+        "{:<57} {:>12} {:>12} {:>7.2} {spread:>15} {verdict}",
         contest.what,
         shown(least(&contest.ours)),
         shown(least(&contest.theirs)),
         contest.ratio(),
-        format!("{low:.2} .. {high:.2}"),
     );
 }
 
