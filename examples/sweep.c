@@ -1,5 +1,5 @@
-/* A solver that sweeps a grid of 9 by 9 by 9 elements on 8 processors: it plans the job, looks at who owns the tiles of one slab, and asks to
- * whom a processor hands its results when the sweep along dimension 1 goes on to the next slab.
+/* A solver that sweeps a grid of 9 by 9 by 9 elements on 8 processors: it plans the job, looks at who owns the tiles of one slab, asks to whom a
+ * processor hands its results when the sweep along dimension 1 goes on to the next slab, and goes through that processor's tiles.
  *
  *     rt staticlib solver_link
  *     cc -Iinclude examples/sweep.c target/staticlib/libsolver_link.a -o target/sweep && target/sweep
@@ -19,6 +19,33 @@ static void check(uint64_t returned)
         printf("refused %d %" PRIu32 "\n", (int)multipartition_number_of(returned), multipartition_place_of(returned));
         exit(EXIT_FAILURE);
     }
+}
+
+/* The processor's tiles, lowest first, and the tile one step up from each. */
+static void hand_on(const uint32_t *plan)
+{
+    const uint32_t *cuts = plan + MULTIPARTITION_CUTS;
+    const size_t processors = plan[MULTIPARTITION_PROCESSORS];
+    const size_t tiles = (size_t)cuts[0] * cuts[1] * cuts[2];
+    uint32_t *heads = malloc(processors * sizeof *heads);
+    uint32_t *nexts = malloc(tiles * sizeof *nexts);
+    if (!heads || !nexts)
+        exit(EXIT_FAILURE);
+    check(multipartition_chains(plan, MULTIPARTITION_PLAN_LENGTH, heads, processors, nexts, tiles));
+    for (uint32_t tile = heads[PROCESSOR]; tile != 0; tile = nexts[tile - 1]) {
+        uint32_t position[D], step[MULTIPARTITION_STEP_LENGTH(D)], above[MULTIPARTITION_TILE_LENGTH];
+        check(multipartition_tile_position(plan, MULTIPARTITION_PLAN_LENGTH, tile, position, D));
+        check(multipartition_step(plan, MULTIPARTITION_PLAN_LENGTH, position, D, DIMENSION, 1, step, MULTIPARTITION_STEP_LENGTH(D)));
+        printf("tile %" PRIu32 " at %" PRIu32 " %" PRIu32 " %" PRIu32, tile, position[0], position[1], position[2]);
+        if (step[MULTIPARTITION_STEP_INSIDE]) {
+            check(multipartition_tile_number(plan, MULTIPARTITION_PLAN_LENGTH, step + MULTIPARTITION_STEP_POSITION, D, above,
+                                             MULTIPARTITION_TILE_LENGTH));
+            printf(" hands on to tile %" PRIu32 "\n", above[MULTIPARTITION_TILE]);
+        } else
+            printf(" is at the edge\n");
+    }
+    free(heads);
+    free(nexts);
 }
 
 int main(void)
@@ -51,5 +78,6 @@ int main(void)
         printf("one step up dimension %d from processor %d is processor %" PRIu32 "\n", DIMENSION, PROCESSOR, next[MULTIPARTITION_NEIGHBOUR]);
     else
         printf("dimension %d is uncut\n", DIMENSION);
+    hand_on(plan);
     return EXIT_SUCCESS;
 }
