@@ -128,7 +128,12 @@ static void within(const char *what, size_t stated, void (*call)(void))
     size_t unused = 0;
     while (run.low[unused] == UNUSED)
         unused++;
-    printf("%zu of %zu bytes\n", stated - unused, stated);
+    const size_t used = stated - unused;
+    printf("%zu of %zu bytes\n", used, stated);
+    if (used + used / 4 > stated) {
+        printf("less than a quarter to spare\n");
+        exit(EXIT_FAILURE);
+    }
     munmap(memory, GUARD + size);
 }
 
