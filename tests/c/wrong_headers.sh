@@ -13,8 +13,8 @@ tried=0
 pass() {
     for program in places refusals stack; do
         cc -std=c99 -pthread -I"$folder" "tests/c/$program.c" "$archive" -o "$folder/$program" || exit 1
-        # The shell that waits tells of a program that was stopped; it need not.
-        { (ulimit -c 0; exec "$folder/$program") >"$folder/log" 2>&1; } 2>/dev/null || return 1
+        # A shell of its own, which tells the log of a program that the machine stopped.
+        sh -c 'ulimit -c 0; "$1"; exit $?' sh "$folder/$program" >"$folder/log" 2>&1 || return 1
     done
 }
 
