@@ -1,5 +1,5 @@
-/* Every named place of every list, against figures. No two figures agree but where the formulas make them: matrix entries above the diagonal are
- * 0 and those on it 1, and the last modulus is the last cut. Lists stand at the beginning of longer ones, whose other numbers agree with none. */
+/* Every named place of every list, against figures. Those of the job, the cuts and the halves of the cost all differ; of the moduli and the matrix
+ * as many as the formulas allow, and plan_by_hand has others. Lists stand at the beginning of longer ones, whose other numbers agree with none. */
 #include <inttypes.h>
 #include <stdio.h>
 #include <stdlib.h>
