@@ -134,7 +134,7 @@ fn planning_otherwise(repeats: usize) {
         ),
     ];
     for (what, target, rival) in others {
-        print_line(&contest_of_plans(what, target, repeats.min(5), &mix, rival));
+        print_line(&contest_of_plans(what, target, repeats, &mix, rival));
     }
 }
 

@@ -108,7 +108,8 @@ fn moved(list: &PlanList, position: &[u32], k: usize, up: u32) -> Option<Vec<u32
             assert!(answer.iter().all(|&n| n == 0), "{answer:?}");
             None
         }
-        _ => Some(answer[1..].to_vec()),
+        1 => Some(answer[1..].to_vec()),
+        other => panic!("inside is {other}"),
     }
 }
 
