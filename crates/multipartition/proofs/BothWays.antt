@@ -1,24 +1,25 @@
--- The questions agree both ways: tile numbers and positions, steps and steps back, elements and slabs, owners and chains, said of what the calls
--- answer about any plan.
+-- What it takes for each question to be answered, and what it then answers. The questions agree both ways: tile numbers and positions, steps and
+-- steps back, elements and slabs, owners and chains, said of what the calls answer about any plan.
 use mathlib.Core.Path.{_≡_, refl, ap, _∙_, subst, subst⁻¹}
 use mathlib.Core.Logic.{_↔_}
-use mathlib.Core.Bool.{Bool, true, not, cond}
-use mathlib.Core.List.{List, List·Memᴰ}
+use mathlib.Core.Bool.{Bool, true, not}
+use mathlib.Core.List.{List, [], _∷_, List·Memᴰ}
 use mathlib.Core.Option.{Option, some}
 use Prim.Native.Nat.{ℕ, suc, _-_, _≤_, _<_}
 use native.Mathlib.Omega.{arith}
-use borrow.Author.Tests.{ltb-true, lt-ltb}
+use borrow.Author.Tests.{ltb-true, lt-ltb, not-false}
 use lib.Dec.{ltb, eqb}
 use lib.ListN.{getD}
-use Rattle.multipartition.specs.Answers.{Answer, answered, refused}
+use Rattle.multipartition.specs.Answers.{answered, Check}
 use Rattle.multipartition.specs.Owners.{ownerAt}
+use Rattle.multipartition.specs.Neighbours.{neighbourAt}
 use Rattle.multipartition.specs.Tiles.{Inside, isInside, tileNumber, positionOf, oneStepOn}
 use Rattle.multipartition.specs.Slabs.{slabStart, slabEnd, slabOf}
 use Rattle.multipartition.specs.Chains.{headsOf, nextsOf, Chain, Rising}
 use Rattle.multipartition.specs.Plans.{Layout, tilesOf, between, inShape}
-use Rattle.multipartition.specs.Questions.{extentOf, cutOf, tileOwner, ownerAnswer, numberAnswer, stepAnswer, positionAnswer, slabAnswer, slabOfAnswer, chainsAnswer}
+use Rattle.multipartition.specs.Questions.{shapeCheck, dimensionCheck, rangeCheck, lengthCheck, extentOf, cutOf, tileOwner, ownerAnswer, neighbourAnswer, numberAnswer, stepAnswer, positionAnswer, slabAnswer, slabOfAnswer, chainsAnswer}
 use Rattle.multipartition.proofs.Tests.{between-true-iff}
-use Rattle.multipartition.proofs.Answers.{answered-iff, answered-injective}
+use Rattle.multipartition.proofs.Answers.{answers-iff}
 use Rattle.multipartition.proofs.Plans.{in-shape-iff}
 use Rattle.multipartition.proofs.Tiles.{inside-of-test, test-of-inside, number-low, number-high, position-inside, position-of-number, number-of-position, one-step-on-inside, step-back}
 use Rattle.multipartition.proofs.Slabs.{slabs-in-order, slab-start-last, slab-of-holds, slab-of-iff}
@@ -27,37 +28,21 @@ use Rattle.multipartition.proofs.Chains.{tilesOwned, owned-iff, chain-o
 module _ (plan : Layout) where
   -- ---- tile numbers and positions
 
-  number-answered : (x : List ℕ) (t : ℕ) → (numberAnswer plan x ≡ answered t) ↔ ((inShape plan ≡ true) × Inside (plan .cuts) x × (tileNumber (plan .cuts) x ≡ t))
+  pub number-answered : (x : List ℕ) (t : ℕ) → (numberAnswer plan x ≡ answered t) ↔ ((inShape plan ≡ true) × Inside (plan .cuts) x × (tileNumber (plan .cuts) x ≡ t))
   unfolding numberAnswer
-  number-answered x t = (there, back)
-    where
-      later : Answer ℕ
-      later = answered (tileNumber (plan .cuts) x)
+  number-answered x t = (
+    (λ e. let h = answers-iff (shapeCheck plan ∷ rangeCheck (isInside (plan .cuts) x) ∷ []) (tileNumber (plan .cuts) x) t .0 e in
+        (not-false (inShape plan) (h .0 .0), inside-of-test (plan .cuts) x (not-false (isInside (plan .cuts) x) (h .0 .1 .0)), h .1)),
+    λ h. rw (h .0, test-of-inside (plan .cuts) x (h .1)) (ap answered (h .2)),
+  )
 
-      there : numberAnswer plan x ≡ answered t → (inShape plan ≡ true) × Inside (plan .cuts) x × (tileNumber (plan .cuts) x ≡ t)
-      there e =
-          let shape = answered-iff (inShape plan) 6 0 (cond (not (isInside (plan .cuts) x)) (refused 8 0) later) t .0 e in
-          let inside = answered-iff (isInside (plan .cuts) x) 8 0 later t .0 (shape .1) in
-          (shape .0, inside-of-test (plan .cuts) x (inside .0), answered-injective (tileNumber (plan .cuts) x) t (inside .1))
-
-      back : (inShape plan ≡ true) × Inside (plan .cuts) x × (tileNumber (plan .cuts) x ≡ t) → numberAnswer plan x ≡ answered t
-      back h = rw (h .0, test-of-inside (plan .cuts) x (h .1)) (ap answered (h .2))
-
-  position-answered : (t : ℕ) (x : List ℕ) → (positionAnswer plan t ≡ answered x) ↔ ((inShape plan ≡ true) × ((1 ≤ t) × (t ≤ tilesOf plan)) × (positionOf (plan .cuts) t ≡ x))
+  pub position-answered : (t : ℕ) (x : List ℕ) → (positionAnswer plan t ≡ answered x) ↔ ((inShape plan ≡ true) × ((1 ≤ t) × (t ≤ tilesOf plan)) × (positionOf (plan .cuts) t ≡ x))
   unfolding positionAnswer
-  position-answered t x = (there, back)
-    where
-      later : Answer (List ℕ)
-      later = answered (positionOf (plan .cuts) t)
-
-      there : positionAnswer plan t ≡ answered x → (inShape plan ≡ true) × ((1 ≤ t) × (t ≤ tilesOf plan)) × (positionOf (plan .cuts) t ≡ x)
-      there e =
-          let shape = answered-iff (inShape plan) 6 0 (cond (not (between 1 (tilesOf plan) t)) (refused 8 0) later) x .0 e in
-          let range = answered-iff (between 1 (tilesOf plan) t) 8 0 later x .0 (shape .1) in
-          (shape .0, between-true-iff 1 (tilesOf plan) t .0 (range .0), answered-injective (positionOf (plan .cuts) t) x (range .1))
-
-      back : (inShape plan ≡ true) × ((1 ≤ t) × (t ≤ tilesOf plan)) × (positionOf (plan .cuts) t ≡ x) → positionAnswer plan t ≡ answered x
-      back h = rw (h .0, between-true-iff 1 (tilesOf plan) t .1 (h .1)) (ap answered (h .2))
+  position-answered t x = (
+    (λ e. let h = answers-iff (shapeCheck plan ∷ rangeCheck (between 1 (tilesOf plan) t) ∷ []) (positionOf (plan .cuts) t) x .0 e in
+        (not-false (inShape plan) (h .0 .0), between-true-iff 1 (tilesOf plan) t .0 (not-false (between 1 (tilesOf plan) t) (h .0 .1 .0)), h .1)),
+    λ h. rw (h .0, between-true-iff 1 (tilesOf plan) t .1 (h .1)) (ap answered (h .2)),
+  )
 
   -- t is the number of the tile at x exactly if x is the position of tile t
   pub number-iff-position : (x : List ℕ) (t : ℕ) → (numberAnswer plan x ≡ answered t) ↔ (positionAnswer plan t ≡ answered x)
@@ -79,28 +64,16 @@ module _ (plan : Layout) where
 
   -- ---- steps
 
-  step-answered : (x y : List ℕ) (k : ℕ) (up : Bool) → (stepAnswer plan x k up ≡ answered (some y))
+  pub step-answered : (x y : List ℕ) (k : ℕ) (up : Bool) → (stepAnswer plan x k up ≡ answered (some y))
       ↔ ((inShape plan ≡ true) × (between 1 (plan .d) k ≡ true) × Inside (plan .cuts) x × (oneStepOn (plan .cuts) (k - 1) up x ≡ some y))
   unfolding stepAnswer
-  step-answered x y k up = (there, back)
-    where
-      later : Answer (Option (List ℕ))
-      later = answered (oneStepOn (plan .cuts) (k - 1) up x)
-
-      after : Answer (Option (List ℕ))
-      after = cond (not (isInside (plan .cuts) x)) (refused 8 0) later
-
-      there : stepAnswer plan x k up ≡ answered (some y)
-          → (inShape plan ≡ true) × (between 1 (plan .d) k ≡ true) × Inside (plan .cuts) x × (oneStepOn (plan .cuts) (k - 1) up x ≡ some y)
-      there e =
-          let shape = answered-iff (inShape plan) 6 0 (cond (not (between 1 (plan .d) k)) (refused 7 0) after) (some y) .0 e in
-          let dimension = answered-iff (between 1 (plan .d) k) 7 0 after (some y) .0 (shape .1) in
-          let inside = answered-iff (isInside (plan .cuts) x) 8 0 later (some y) .0 (dimension .1) in
-          (shape .0, dimension .0, inside-of-test (plan .cuts) x (inside .0), answered-injective (oneStepOn (plan .cuts) (k - 1) up x) (some y) (inside .1))
-
-      back : (inShape plan ≡ true) × (between 1 (plan .d) k ≡ true) × Inside (plan .cuts) x × (oneStepOn (plan .cuts) (k - 1) up x ≡ some y)
-          → stepAnswer plan x k up ≡ answered (some y)
-      back h = rw (h .0, h .1, test-of-inside (plan .cuts) x (h .2)) (ap answered (h .3))
+  step-answered x y k up = (
+    (λ e.
+        let h = answers-iff (shapeCheck plan ∷ dimensionCheck plan k ∷ rangeCheck (isInside (plan .cuts) x) ∷ []) (oneStepOn (plan .cuts) (k - 1) up x) (some y) .0 e in
+        let inside = inside-of-test (plan .cuts) x (not-false (isInside (plan .cuts) x) (h .0 .1 .1 .0)) in
+        (not-false (inShape plan) (h .0 .0), not-false (between 1 (plan .d) k) (h .0 .1 .0), inside, h .1)),
+    λ h. rw (h .0, h .1, test-of-inside (plan .cuts) x (h .2)) (ap answered (h .3)),
+  )
 
   -- a step that stays inside comes back by the step in the other direction
   pub step-comes-back : (x y : List ℕ) (k : ℕ) (up : Bool) → stepAnswer plan x k up ≡ answered (some y) → stepAnswer plan y k (not up) ≡ answered (some x)
@@ -118,48 +91,30 @@ module _ (plan : Layout) where
       let cut = in-shape-iff plan .0 shape .cut-range (k - 1) (omega (arith, range .0, range .1)) in
       (cut .0, cut .1)
 
-  slab-answered : (k s : ℕ) (ends : ℕ × ℕ) → (slabAnswer plan k s ≡ answered ends)
+  pub slab-answered : (k s : ℕ) (ends : ℕ × ℕ) → (slabAnswer plan k s ≡ answered ends)
       ↔ ((inShape plan ≡ true) × (between 1 (plan .d) k ≡ true) × (s < cutOf plan k)
       × ((slabStart (extentOf plan k) (cutOf plan k) s, slabEnd (extentOf plan k) (cutOf plan k) s) ≡ ends))
   unfolding slabAnswer
-  slab-answered k s ends = (there, back)
-    where
-      both : ℕ × ℕ
-      both = (slabStart (extentOf plan k) (cutOf plan k) s, slabEnd (extentOf plan k) (cutOf plan k) s)
+  slab-answered k s ends = (
+    (λ e.
+        let both : ℕ × ℕ = (slabStart (extentOf plan k) (cutOf plan k) s, slabEnd (extentOf plan k) (cutOf plan k) s) in
+        let h = answers-iff (shapeCheck plan ∷ dimensionCheck plan k ∷ rangeCheck (ltb s (cutOf plan k)) ∷ []) both ends .0 e in
+        let below = ltb-true s (cutOf plan k) (not-false (ltb s (cutOf plan k)) (h .0 .1 .1 .0)) in
+        (not-false (inShape plan) (h .0 .0), not-false (between 1 (plan .d) k) (h .0 .1 .0), below, h .1)),
+    λ h. rw (h .0, h .1, lt-ltb s (cutOf plan k) (h .2)) (ap answered (h .3)),
+  )
 
-      after : Answer (ℕ × ℕ)
-      after = cond (not (ltb s (cutOf plan k))) (refused 8 0) (answered both)
-
-      there : slabAnswer plan k s ≡ answered ends → (inShape plan ≡ true) × (between 1 (plan .d) k ≡ true) × (s < cutOf plan k) × (both ≡ ends)
-      there e =
-          let shape = answered-iff (inShape plan) 6 0 (cond (not (between 1 (plan .d) k)) (refused 7 0) after) ends .0 e in
-          let dimension = answered-iff (between 1 (plan .d) k) 7 0 after ends .0 (shape .1) in
-          let range = answered-iff (ltb s (cutOf plan k)) 8 0 (answered both) ends .0 (dimension .1) in
-          (shape .0, dimension .0, ltb-true s (cutOf plan k) (range .0), answered-injective both ends (range .1))
-
-      back : (inShape plan ≡ true) × (between 1 (plan .d) k ≡ true) × (s < cutOf plan k) × (both ≡ ends) → slabAnswer plan k s ≡ answered ends
-      back h = rw (h .0, h .1, lt-ltb s (cutOf plan k) (h .2)) (ap answered (h .3))
-
-  slab-of-answered : (k element s : ℕ) → (slabOfAnswer plan k element ≡ answered s)
+  pub slab-of-answered : (k element s : ℕ) → (slabOfAnswer plan k element ≡ answered s)
       ↔ ((inShape plan ≡ true) × (between 1 (plan .d) k ≡ true) × (element < extentOf plan k) × (slabOf (extentOf plan k) (cutOf plan k) element ≡ s))
   unfolding slabOfAnswer
-  slab-of-answered k element s = (there, back)
-    where
-      held : ℕ
-      held = slabOf (extentOf plan k) (cutOf plan k) element
-
-      after : Answer ℕ
-      after = cond (not (ltb element (extentOf plan k))) (refused 8 0) (answered held)
-
-      there : slabOfAnswer plan k element ≡ answered s → (inShape plan ≡ true) × (between 1 (plan .d) k ≡ true) × (element < extentOf plan k) × (held ≡ s)
-      there e =
-          let shape = answered-iff (inShape plan) 6 0 (cond (not (between 1 (plan .d) k)) (refused 7 0) after) s .0 e in
-          let dimension = answered-iff (between 1 (plan .d) k) 7 0 after s .0 (shape .1) in
-          let range = answered-iff (ltb element (extentOf plan k)) 8 0 (answered held) s .0 (dimension .1) in
-          (shape .0, dimension .0, ltb-true element (extentOf plan k) (range .0), answered-injective held s (range .1))
-
-      back : (inShape plan ≡ true) × (between 1 (plan .d) k ≡ true) × (element < extentOf plan k) × (held ≡ s) → slabOfAnswer plan k element ≡ answered s
-      back h = rw (h .0, h .1, lt-ltb element (extentOf plan k) (h .2)) (ap answered (h .3))
+  slab-of-answered k element s = (
+    (λ e.
+        let checks : List Check = shapeCheck plan ∷ dimensionCheck plan k ∷ rangeCheck (ltb element (extentOf plan k)) ∷ [] in
+        let h = answers-iff checks (slabOf (extentOf plan k) (cutOf plan k) element) s .0 e in
+        let below = ltb-true element (extentOf plan k) (not-false (ltb element (extentOf plan k)) (h .0 .1 .1 .0)) in
+        (not-false (inShape plan) (h .0 .0), not-false (between 1 (plan .d) k) (h .0 .1 .0), below, h .1)),
+    λ h. rw (h .0, h .1, lt-ltb element (extentOf plan k) (h .2)) (ap answered (h .3)),
+  )
 
   -- an element's slab is s exactly if the element lies between the ends of slab s
   pub slab-iff-elements : (k element s : ℕ) → (slabOfAnswer plan k element ≡ answered s)
@@ -190,31 +145,36 @@ module _ (plan : Layout) where
           slab-of-answered k element s .1
           (h .0, h .1, within, slab-of-iff (extentOf plan k) (cutOf plan k) (cut .0) (cut .1) s element (h .2) within .1 (start, end))
 
-  -- ---- owners and chains
+  -- ---- owners, neighbours and chains
 
-  owner-answered : (x : List ℕ) (q : ℕ) → inShape plan ≡ true → Inside (plan .cuts) x
-      → (ownerAnswer plan x ≡ answered q) ↔ (ownerAt (plan .moduli) (plan .matrix) x ≡ q)
+  pub owner-answered : (x : List ℕ) (q : ℕ)
+      → (ownerAnswer plan x ≡ answered q) ↔ ((inShape plan ≡ true) × Inside (plan .cuts) x × (ownerAt (plan .moduli) (plan .matrix) x ≡ q))
   unfolding ownerAnswer
-  owner-answered x q shape inside = (
-    λ e. answered-injective (ownerAt (plan .moduli) (plan .matrix) x) q (rw (shape, test-of-inside (plan .cuts) x inside) at e),
-    λ e. rw (shape, test-of-inside (plan .cuts) x inside) (ap answered e),
+  owner-answered x q = (
+    (λ e. let h = answers-iff (shapeCheck plan ∷ rangeCheck (isInside (plan .cuts) x) ∷ []) (ownerAt (plan .moduli) (plan .matrix) x) q .0 e in
+        (not-false (inShape plan) (h .0 .0), inside-of-test (plan .cuts) x (not-false (isInside (plan .cuts) x) (h .0 .1 .0)), h .1)),
+    λ h. rw (h .0, test-of-inside (plan .cuts) x (h .1)) (ap answered (h .2)),
   )
 
-  chains-answered : (h n : ℕ) (heads nexts : List ℕ) → chainsAnswer plan h n ≡ answered (heads, nexts)
+  pub neighbour-answered : (q k : ℕ) (up : Bool) (r : Option ℕ) → (neighbourAnswer plan q k up ≡ answered r)
+      ↔ ((inShape plan ≡ true) × (between 1 (plan .d) k ≡ true) × (q < plan .p) × (neighbourAt (plan .cuts) (plan .moduli) (plan .matrix) (k - 1) up q ≡ r))
+  unfolding neighbourAnswer
+  neighbour-answered q k up r = (
+    (λ e.
+        let checks : List Check = shapeCheck plan ∷ dimensionCheck plan k ∷ rangeCheck (ltb q (plan .p)) ∷ [] in
+        let h = answers-iff checks (neighbourAt (plan .cuts) (plan .moduli) (plan .matrix) (k - 1) up q) r .0 e in
+        let below = ltb-true q (plan .p) (not-false (ltb q (plan .p)) (h .0 .1 .1 .0)) in
+        (not-false (inShape plan) (h .0 .0), not-false (between 1 (plan .d) k) (h .0 .1 .0), below, h .1)),
+    λ h. rw (h .0, h .1, lt-ltb q (plan .p) (h .2)) (ap answered (h .3)),
+  )
+
+  pub chains-answered : (h n : ℕ) (heads nexts : List ℕ) → chainsAnswer plan h n ≡ answered (heads, nexts)
       → (inShape plan ≡ true) × (headsOf (tileOwner plan) (tilesOf plan) (plan .p) ≡ heads) × (nextsOf (tileOwner plan) (tilesOf plan) ≡ nexts)
   unfolding chainsAnswer
   chains-answered h n heads nexts e =
-      let shape = answered-iff (inShape plan) 6 0 (cond (not (eqb h (plan .p))) (refused 9 0) after) (heads, nexts) .0 e in
-      let first = answered-iff (eqb h (plan .p)) 9 0 after (heads, nexts) .0 (shape .1) in
-      let second = answered-iff (eqb n (tilesOf plan)) 9 0 (answered both) (heads, nexts) .0 (first .1) in
-      let same : both ≡ (heads, nexts) = answered-injective both (heads, nexts) (second .1) in
-      (shape .0, ap (λ (b : List ℕ × List ℕ). b .0) same, ap (λ (b : List ℕ × List ℕ). b .1) same)
-    where
-      both : List ℕ × List ℕ
-      both = (headsOf (tileOwner plan) (tilesOf plan) (plan .p), nextsOf (tileOwner plan) (tilesOf plan))
-
-      after : Answer (List ℕ × List ℕ)
-      after = cond (not (eqb n (tilesOf plan))) (refused 9 0) (answered both)
+      let checks : List Check = shapeCheck plan ∷ lengthCheck (eqb h (plan .p)) ∷ lengthCheck (eqb n (tilesOf plan)) ∷ [] in
+      let asked = answers-iff {A = List ℕ × List ℕ} checks (headsOf (tileOwner plan) (tilesOf plan) (plan .p), nextsOf (tileOwner plan) (tilesOf plan)) (heads, nexts) .0 e in
+      (not-false (inShape plan) (asked .0 .0), ap (λ (b : List ℕ × List ℕ). b .0) (asked .1), ap (λ (b : List ℕ × List ℕ). b .1) (asked .1))
 
   -- from a processor's place in the first list the second leads through some numbers, rising, and ends; a number is one of them exactly if it is
   -- the number of a tile and the processor owns that tile
@@ -242,13 +202,12 @@ module _ (plan : Layout) where
           let high : t ≤ tilesOf plan = omega (arith, h .1) in (
             positionOf (plan .cuts) t,
             position-answered t (positionOf (plan .cuts) t) .1 (lists .0, (h .0, high), refl),
-            owner-answered (positionOf (plan .cuts) t) q (lists .0) (position-inside (plan .cuts) t (h .0) high) .1 (h .2),
+            owner-answered (positionOf (plan .cuts) t) q .1 (lists .0, position-inside (plan .cuts) t (h .0) high, h .2),
           )
 
       back : (t : ℕ) → (x : List ℕ) × (positionAnswer plan t ≡ answered x) × (ownerAnswer plan x ≡ answered q) → List·Memᴰ t owned
       back t (x, f, a) =
           let place = position-answered t x .0 f in
-          let inside : Inside (plan .cuts) x = subst (Inside (plan .cuts)) (place .2) (position-inside (plan .cuts) t (place .1 .0) (place .1 .1)) in
           let owner : tileOwner plan t ≡ ownerAt (plan .moduli) (plan .matrix) x = ap (ownerAt (plan .moduli) (plan .matrix)) (place .2) in
           owned-iff (tileOwner plan) q t 1 (tilesOf plan) .1
-          (place .1 .0, omega (arith, place .1 .1), owner ∙ owner-answered x q (place .0) inside .0 a)
+          (place .1 .0, omega (arith, place .1 .1), owner ∙ owner-answered x q .0 a .2)

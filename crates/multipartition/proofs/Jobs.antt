@@ -5,21 +5,21 @@ use mathlib.Core.Logic.{_↔_}
 use mathlib.Core.Bool.{Bool, true, false, not, cond, _||_}
 use mathlib.Core.List.{List, [], _∷_}
 use mathlib.Core.Option.{Option, none, some}
-use Prim.Native.Nat.{ℕ, zero, suc, _≤_, _<_}
+use Prim.Native.Nat.{ℕ, zero, suc, _+_, _≤_, _<_}
 use native.Mathlib.Nat.{not-suc-le-zero, le-of-suc-le-suc, zero-lt-suc}
 use native.Mathlib.Omega.{arith}
 use borrow.Author.Tests.{eqb-true, eq-eqb, not-false}
 use lib.Dec.{eqb}
 use lib.ListN.{length, getD}
-use Rattle.multipartition.specs.Answers.{Answer, answered, refused}
+use Rattle.multipartition.specs.Answers.{answered, refused}
 use Rattle.multipartition.specs.Cuts.{Fits, Even, cheapest}
 use Rattle.multipartition.specs.Plans.{Layout, layoutWith, between, inShape}
-use Rattle.multipartition.specs.Jobs.{Passed, PlanFor, firstOutside, planWith, planAnswer}
-use Rattle.multipartition.proofs.Answers.{answered-passed}
+use Rattle.multipartition.specs.Jobs.{Passed, PlanFor, firstOutside, jobChecks, planWith, planAnswer}
+use Rattle.multipartition.proofs.Answers.{AllPass, Small, checked-passed, checked-answered, checked-small}
 use Rattle.multipartition.proofs.Cheapest.{cheapest-even, cheapest-none}
 use Rattle.multipartition.proofs.Fitting.{cheapest-fits}
 use Rattle.multipartition.proofs.Plans.{layout-in-shape}
-use Rattle.multipartition.proofs.Tests.{between-true-iff}
+use Rattle.multipartition.proofs.Tests.{by-cond, between-true-iff}
 
 -- ---- the checks
 
@@ -40,7 +40,7 @@ extents-of-firstOutside i (n ∷ extents) e k l = go (between 1 1000000 n) refl 
     go true f e later (suc k) l = later e k (le-of-suc-le-suc l)
     go false f e later k l = absurd (omega arith)
 
-firstOutside-of-extents : (i : ℕ) (extents : List ℕ) → ((k : ℕ) → k < length extents → Extent (getD extents k 0)) → firstOutside i extents ≡ 0
+pub firstOutside-of-extents : (i : ℕ) (extents : List ℕ) → ((k : ℕ) → k < length extents → Extent (getD extents k 0)) → firstOutside i extents ≡ 0
 unfolding firstOutside Extent
 firstOutside-of-extents i [] h = refl
 firstOutside-of-extents i (n ∷ extents) h =
@@ -50,18 +50,76 @@ pub or-false : (s t : Bool) → s || t ≡ false → (s ≡ false) × (t ≡ fal
 or-false true t e = let clash : _≡_ {A = ℕ} 0 1 = cc in absurd (omega arith)
 or-false false t e = (refl, e)
 
+-- the first such dimension is one of them
+first-outside-le : (k : ℕ) (extents : List ℕ) → firstOutside k extents ≤ k + length extents
+unfolding firstOutside
+first-outside-le k [] = omega arith
+first-outside-le k (n ∷ extents) =
+    let later = first-outside-le (suc k) extents in
+    by-cond (λ (place : ℕ). place ≤ k + suc (length extents)) (between 1 1000000 n) (firstOutside (suc k) extents) k (λ e. omega arith) (λ e. omega arith)
+
 module _ (p d : ℕ) (extents weights : List ℕ) where
+  -- the lines 1 to 4 of the table, and what it takes to pass them
+  pub job-passes-iff : AllPass (jobChecks p d extents weights) ↔ Passed p d extents weights
+  unfolding Extent
+  job-passes-iff = (there, back)
+    where
+      there : AllPass (jobChecks p d extents weights) → Passed p d extents weights
+      there h =
+          let d-range = between-true-iff 2 5 d .0 (not-false (between 2 5 d) (h .0)) in
+          let p-range = between-true-iff 1 4096 p .0 (not-false (between 1 4096 p) (h .1 .0)) in
+          let many = or-false (not (eqb (length extents) d)) (not (eqb (length weights) d)) (h .1 .1 .0) in
+          let extents-many : length extents ≡ d = eqb-true (length extents) d (not-false (eqb (length extents) d) (many .0)) in
+          let inside = extents-of-firstOutside 0 extents (eqb-true (firstOutside 1 extents) 0 (not-false (eqb (firstOutside 1 extents) 0) (h .1 .1 .1 .0))) in
+          record {
+            range = record {
+              p-low = p-range .0;
+              p-high = p-range .1;
+              d-low = omega (arith, d-range .0);
+              d-high = omega (arith, d-range .1);
+              extent-low = λ k l. inside k l .0;
+              extent-high = λ k l. inside k l .1;
+            };
+            extents-many = extents-many;
+            weights-many = eqb-true (length weights) d (not-false (eqb (length weights) d) (many .1));
+          }
+
+      back : Passed p d extents weights → AllPass (jobChecks p d extents weights)
+      back job = (
+        rw (between-true-iff 2 5 d .1 (subst (λ (n : ℕ). (2 ≤ n) × (n ≤ 5)) (job .extents-many) (job .range .d-low, job .range .d-high))),
+        (
+          rw (between-true-iff 1 4096 p .1 (job .range .p-low, job .range .p-high)),
+          (
+            rw (eq-eqb (length extents) d (job .extents-many), eq-eqb (length weights) d (job .weights-many)),
+            (
+              rw (eq-eqb (firstOutside 1 extents) 0 (firstOutside-of-extents 1 extents (λ k l. (job .range .extent-low k l, job .range .extent-high k l)))),
+              tt,
+            ),
+          ),
+        ),
+      )
+
   -- a job that passes is answered by the cheapest cuts
   pub plan-of-passed : Passed p d extents weights → planAnswer p d extents weights ≡ planWith p extents weights (cheapest p extents weights)
-  unfolding planAnswer Extent
-  plan-of-passed job =
-      rw (
-        between-true-iff 2 5 d .1 (subst (λ (n : ℕ). (2 ≤ n) × (n ≤ 5)) (job .extents-many) (job .range .d-low, job .range .d-high)),
-        between-true-iff 1 4096 p .1 (job .range .p-low, job .range .p-high),
-        eq-eqb (length extents) d (job .extents-many),
-        eq-eqb (length weights) d (job .weights-many),
-        eq-eqb (firstOutside 1 extents) 0 (firstOutside-of-extents 1 extents (λ k l. (job .range .extent-low k l, job .range .extent-high k l))),
+  unfolding planAnswer
+  plan-of-passed job = checked-passed (jobChecks p d extents weights) (planWith p extents weights (cheapest p extents weights)) (job-passes-iff .1 job)
+
+  -- a refusal has a number from 1 on, and one of two digits
+  pub plan-small : Small (1 + length extents) (planAnswer p d extents weights)
+  unfolding planAnswer planWith
+  plan-small =
+      checked-small (1 + length extents) (jobChecks p d extents weights) (planWith p extents weights (cheapest p extents weights)) (
+        (omega arith, omega arith, omega arith),
+        (
+          (omega arith, omega arith, omega arith),
+          ((omega arith, omega arith, omega arith), ((omega arith, omega arith, first-outside-le 1 extents), tt)),
+        ),
       )
+      (go (cheapest p extents weights))
+    where
+      go : (o : Option (List ℕ)) → Small (1 + length extents) (planWith p extents weights o)
+      go none = (omega arith, omega arith, omega arith)
+      go (some cuts) = tt
 
   -- "Refusal 5 is for the jobs with no even, fitting cuts and for those only."
   pub refused-five-iff : Passed p d extents weights → (planAnswer p d extents weights ≡ refused 5 0) ↔ ((cuts : List ℕ) → Fits extents cuts → Even p cuts → ⊥)
@@ -84,47 +142,12 @@ module _ (p d : ℕ) (extents weights : List ℕ) where
 
   module _ (plan : Layout) where
     pub plan-answered : planAnswer p d extents weights ≡ answered plan → PlanFor p d extents weights plan
-    unfolding planAnswer planWith Extent
+    unfolding planAnswer planWith
     plan-answered e =
-        let first = answered-passed (not (between 2 5 d)) 1 0 after-1 plan e in
-        let second = answered-passed (not (between 1 4096 p)) 2 0 after-2 plan (first .1) in
-        let third = answered-passed (not (eqb (length extents) d) || not (eqb (length weights) d)) 3 0 after-3 plan (second .1) in
-        let fourth = answered-passed (not (eqb (firstOutside 1 extents) 0)) 4 (firstOutside 1 extents) after-4 plan (third .1) in
-        let d-range = between-true-iff 2 5 d .0 (not-false (between 2 5 d) (first .0)) in
-        let p-range = between-true-iff 1 4096 p .0 (not-false (between 1 4096 p) (second .0)) in
-        let many = or-false (not (eqb (length extents) d)) (not (eqb (length weights) d)) (third .0) in
-        let extents-many : length extents ≡ d = eqb-true (length extents) d (not-false (eqb (length extents) d) (many .0)) in
-        let outside : firstOutside 1 extents ≡ 0 = eqb-true (firstOutside 1 extents) 0 (not-false (eqb (firstOutside 1 extents) 0) (fourth .0)) in
-        let made = chosen (cheapest p extents weights) refl (fourth .1) in
-        record {
-          passed = record {
-            range = record {
-              p-low = p-range .0;
-              p-high = p-range .1;
-              d-low = omega (arith, d-range .0);
-              d-high = omega (arith, d-range .1);
-              extent-low = λ k l. extents-of-firstOutside 0 extents outside k l .0;
-              extent-high = λ k l. extents-of-firstOutside 0 extents outside k l .1;
-            };
-            extents-many = extents-many;
-            weights-many = eqb-true (length weights) d (not-false (eqb (length weights) d) (many .1));
-          };
-          cuts-are = made .0;
-          plan-is = made .1;
-        }
+        let asked = checked-answered (jobChecks p d extents weights) (planWith p extents weights (cheapest p extents weights)) plan .0 e in
+        let made = chosen (cheapest p extents weights) refl (asked .1) in
+        record { passed = job-passes-iff .0 (asked .0); cuts-are = made .0; plan-is = made .1 }
       where
-        after-4 : Answer Layout
-        after-4 = planWith p extents weights (cheapest p extents weights)
-
-        after-3 : Answer Layout
-        after-3 = cond (not (eqb (firstOutside 1 extents) 0)) (refused 4 (firstOutside 1 extents)) after-4
-
-        after-2 : Answer Layout
-        after-2 = cond (not (eqb (length extents) d) || not (eqb (length weights) d)) (refused 3 0) after-3
-
-        after-1 : Answer Layout
-        after-1 = cond (not (between 1 4096 p)) (refused 2 0) after-2
-
         chosen : (o : Option (List ℕ)) → cheapest p extents weights ≡ o → planWith p extents weights o ≡ answered plan
             → (cheapest p extents weights ≡ some (plan .cuts)) × (plan ≡ layoutWith p extents weights (plan .cuts))
         chosen none f e = let clash : _≡_ {A = ℕ} 0 1 = cc in absurd (omega arith)

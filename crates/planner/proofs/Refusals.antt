@@ -1,17 +1,20 @@
 -- The lines 1 to 4 of the table, one after the other, by the tests of the code.
-use mathlib.Core.Path.{_≡_, sym, _∙_}
+use mathlib.Core.Path.{_≡_, refl, sym, ap, _∙_}
 use mathlib.Core.Bool.{Bool, true, false, not, _&&_, _||_}
 use mathlib.Core.List.{List}
+use mathlib.Core.Logic.{inl, inr}
 use Prim.Native.Nat.{ℕ, _≤_, _<_}
 use native.Mathlib.Decide.{decLe}
 use native.Mathlib.Omega.{arith}
-use borrow.Author.Tests.{lt-ltb, le-ltb, le-leb, lt-leb, ne-eqb, eqb-true, ltb-false, not-false}
+use borrow.Author.Tests.{lt-ltb, le-ltb, le-leb, lt-leb, ne-eqb, eq-eqb, eqb-true, ltb-false, not-false}
 use lib.Dec.{leb, ltb, eqb}
 use lib.ListN.{length}
 use Rattle.multipartition.specs.Answers.{refused}
+use Rattle.multipartition.specs.Cuts.{cheapest}
 use Rattle.multipartition.specs.Plans.{between}
-use Rattle.multipartition.specs.Jobs.{Passed, firstOutside, planAnswer}
-use Rattle.multipartition.proofs.Jobs.{Extent, extents-of-firstOutside, or-false}
+use Rattle.multipartition.specs.Jobs.{Passed, firstOutside, jobChecks, planWith, planAnswer}
+use Rattle.multipartition.proofs.Answers.{FirstFails, checked-refused}
+use Rattle.multipartition.proofs.Jobs.{job-passes-iff, or-false}
 
 -- out of a range
 abbrev pub outsideRange : ℕ → ℕ → ℕ → Bool
@@ -43,36 +46,32 @@ lengths d extents weights e =
     (eqb-true (length extents) d (not-false (eqb (length extents) d) (both .0)), eqb-true (length weights) d (not-false (eqb (length weights) d) (both .1)))
 
 module _ (p d : ℕ) (extents weights : List ℕ) where
-  pub refused-1 : outsideRange 2 5 d ≡ true → planAnswer p d extents weights ≡ refused 1 0
+  first-fails : (number place : ℕ) → FirstFails (jobChecks p d extents weights) number place → planAnswer p d extents weights ≡ refused number place
   unfolding planAnswer
-  refused-1 e = rw (sym (outside-range 2 5 d) ∙ e)
+  first-fails = checked-refused (jobChecks p d extents weights) (planWith p extents weights (cheapest p extents weights))
+
+  fails-1 : not (between 2 5 d) ≡ outsideRange 2 5 d
+  fails-1 = sym (outside-range 2 5 d)
+
+  fails-2 : not (between 1 4096 p) ≡ outsideRange 1 4096 p
+  fails-2 = sym (outside-range 1 4096 p)
+
+  pub refused-1 : outsideRange 2 5 d ≡ true → planAnswer p d extents weights ≡ refused 1 0
+  refused-1 e = first-fails 1 0 (inl (fails-1 ∙ e, refl, refl))
 
   module _ (d-in : outsideRange 2 5 d ≡ false) where
     pub refused-2 : outsideRange 1 4096 p ≡ true → planAnswer p d extents weights ≡ refused 2 0
-    unfolding planAnswer
-    refused-2 e = rw (sym (outside-range 2 5 d) ∙ d-in, sym (outside-range 1 4096 p) ∙ e)
+    refused-2 e = first-fails 2 0 (inr (fails-1 ∙ d-in, inl (fails-2 ∙ e, refl, refl)))
 
     module _ (p-in : outsideRange 1 4096 p ≡ false) where
       pub refused-3 : otherLengths d extents weights ≡ true → planAnswer p d extents weights ≡ refused 3 0
-      unfolding planAnswer
-      refused-3 e = rw (sym (outside-range 2 5 d) ∙ d-in, sym (outside-range 1 4096 p) ∙ p-in, e)
+      refused-3 e = first-fails 3 0 (inr (fails-1 ∙ d-in, inr (fails-2 ∙ p-in, inl (e, refl, refl))))
 
       module _ (many : otherLengths d extents weights ≡ false) where
         pub refused-4 : (firstOutside 1 extents ≡ 0 → ⊥) → planAnswer p d extents weights ≡ refused 4 (firstOutside 1 extents)
-        unfolding planAnswer
-        refused-4 e = rw (sym (outside-range 2 5 d) ∙ d-in, sym (outside-range 1 4096 p) ∙ p-in, many, ne-eqb (firstOutside 1 extents) 0 e)
+        refused-4 e =
+            first-fails 4 (firstOutside 1 extents)
+            (inr (fails-1 ∙ d-in, inr (fails-2 ∙ p-in, inr (many, inl (ap not (ne-eqb (firstOutside 1 extents) 0 e), refl, refl)))))
 
         pub passed : firstOutside 1 extents ≡ 0 → Passed p d extents weights
-        unfolding Extent
-        passed e = record {
-          range = record {
-            p-low = within 1 4096 p p-in .0;
-            p-high = within 1 4096 p p-in .1;
-            d-low = omega (arith, within 2 5 d d-in .0, lengths d extents weights many .0);
-            d-high = omega (arith, within 2 5 d d-in .1, lengths d extents weights many .0);
-            extent-low = λ k l. extents-of-firstOutside 0 extents e k l .0;
-            extent-high = λ k l. extents-of-firstOutside 0 extents e k l .1;
-          };
-          extents-many = lengths d extents weights many .0;
-          weights-many = lengths d extents weights many .1;
-        }
+        passed e = job-passes-iff p d extents weights .0 (fails-1 ∙ d-in, (fails-2 ∙ p-in, (many, (ap not (eq-eqb (firstOutside 1 extents) 0 e), tt))))

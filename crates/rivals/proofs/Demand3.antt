@@ -6,7 +6,6 @@ use mathlib.Core.Option.{Option, none, some, Option·none-ne-some}
 use mathlib.Core.Path.{_≡_, refl, sym, ap, ap₂, _∙_, subst⁻¹}
 use Prim.Native.Nat.{ℕ, zero, _-_, _*_, _/_, _≤_, _<_}
 use native.Mathlib.Omega.{arith}
-use borrow.Author.Tests.{lt-ltb}
 use lib.ListN.{length, getD}
 use Rattle.numbers.specs.Products.{product}
 use Rattle.numbers.specs.Sums.{same}
@@ -21,6 +20,7 @@ use Rattle.multipartition.specs.Plans.{Layout, layoutWith, inShape}
 use Rattle.multipartition.specs.Questions.{ownerAnswer, neighbourAnswer}
 use Rattle.multipartition.specs.Rivals.{held, Balanced}
 use Rattle.multipartition.specs.Tiles.{Inside, oneStepOn}
+use Rattle.multipartition.proofs.BothWays.{owner-answered, neighbour-answered}
 use Rattle.multipartition.proofs.Cheapest.{cheapest-even}
 use Rattle.multipartition.proofs.Faces.{faces-differ}
 use Rattle.multipartition.proofs.Fitting.{cheapest-fits, fits-length}
@@ -32,7 +32,7 @@ use Rattle.multipartition.proofs.Owners.{owner-below, even-owners, share-exact}
 use Rattle.multipartition.proofs.Plans.{in-shape-moduli-positive}
 use Rattle.multipartition.proofs.Tests.{between-true-iff}
 use Rattle.multipartition.proofs.Rivals.{balanced-iff-cheapest, cheapest-no-dearer}
-use Rattle.multipartition.proofs.Tiles.{test-of-inside, one-step-on-inside}
+use Rattle.multipartition.proofs.Tiles.{one-step-on-inside}
 use Rattle.layout.specs.declared.Plan.{Plan}
 use Rattle.layout.specs.Plans.{layoutOf, planOf}
 use Rattle.layout.proofs.Plans.{layout-of-plan, layout-with-sized}
@@ -64,8 +64,7 @@ module _ (p d : ℕ) (extents weights : List ℕ) (plan : Plan) (e : planAnswer 
   matrix-is = ap (λ (l : Layout). l .matrix) (made .plan-is)
 
   owner-answers : (x : List ℕ) → Inside (cutsOf plan) x → ownerAnswer (layoutOf plan) x ≡ answered (ownerAt (layoutOf plan .moduli) (layoutOf plan .matrix) x)
-  unfolding ownerAnswer
-  owner-answers x w = rw (shaped, test-of-inside (cutsOf plan) x w)
+  owner-answers x w = owner-answered (layoutOf plan) x (ownerAt (layoutOf plan .moduli) (layoutOf plan .matrix) x) .1 (shaped, w, refl)
 
   -- the owner that the question names is the definition's
   owner-at : (x : List ℕ) → Inside (cutsOf plan) x → ownerIn plan x ≡ ownerAt (layoutOf plan .moduli) (layoutOf plan .matrix) x
@@ -107,12 +106,12 @@ module _ (p d : ℕ) (extents weights : List ℕ) (plan : Plan) (e : planAnswer 
 
   neighbour-is : (k : ℕ) (up : Bool) (x y : List ℕ) → 1 ≤ k → k ≤ plan .d → Inside (cutsOf plan) x → oneStepOn (cutsOf plan) (k - 1) up x ≡ some y
       → neighbourAnswer (layoutOf plan) (ownerIn plan x) k up ≡ answered (some (ownerIn plan y))
-  unfolding neighbourAnswer layoutOf
+  unfolding layoutOf
   neighbour-is k up x y low high w step =
       let q-below : ownerIn plan x < layoutOf plan .p =
       subst⁻¹ (λ (n : ℕ). ownerIn plan x < n) p-is (subst⁻¹ (λ (n : ℕ). n < p) (owner-of x w) (owner-below p (cutsOf plan) x some-processor)) in
-      rw (shaped, between-true-iff 1 (plan .d) k .1 (low, high), lt-ltb (ownerIn plan x) (layoutOf plan .p) q-below)
-      (ap answered (neighbour-at (k - 1) up x y (omega (arith, d-is)) w step))
+      neighbour-answered (layoutOf plan) (ownerIn plan x) k up (some (ownerIn plan y)) .1
+      (shaped, between-true-iff 1 (plan .d) k .1 (low, high), q-below, neighbour-at (k - 1) up x y (omega (arith, d-is)) w step)
 
   one-owner-is : (k : ℕ) (up : Bool) (x y x′ y′ : List ℕ) → 1 ≤ k → k ≤ plan .d → Inside (cutsOf plan) x → Inside (cutsOf plan) x′
       → oneStepOn (cutsOf plan) (k - 1) up x ≡ some y → oneStepOn (cutsOf plan) (k - 1) up x′ ≡ some y′ → ownerIn plan x ≡ ownerIn plan x′
