@@ -1,20 +1,20 @@
 -- The program's two lists are long enough: what is read settles what is printed, and all of it is printed.
 use mathlib.Core.Path.{_≡_, refl, sym, ap, _∙_, subst}
-use mathlib.Core.Bool.{Bool, true, false, cond}
+use mathlib.Core.Bool.{true}
 use mathlib.Core.List.{List, [], _∷_}
 use mathlib.Core.Logic.{inl, inr, ⊎-elim}
-use mathlib.Core.Option.{Option, none, some}
 use Prim.Native.Nat.{ℕ, suc, _+_, _*_, _^_, _≤_, _<_}
 use native.Mathlib.Nat.{mul-le-mul}
 use native.Mathlib.Omega.{arith}
 use lib.ListN.{length, take, drop, getD, length-append, length-take, length-drop, List·getD-eq-default}
 use lib.Seq.{getD-drop}
 use Rattle.numerals.proofs.Decimal.{lt-or-le}
-use Rattle.multipartition.specs.Answers.{Answer, answered, refused, Check, checked}
-use Rattle.multipartition.specs.Cuts.{costOf, cheapest}
-use Rattle.multipartition.specs.Plans.{Layout, between, inShape}
-use Rattle.multipartition.specs.Jobs.{PlanFor, firstOutside, jobChecks, planWith, planAnswer}
-use Rattle.multipartition.proofs.Jobs.{plan-answered, plan-in-shape}
+use Rattle.multipartition.specs.Answers.{Answer, answered, refused}
+use Rattle.multipartition.specs.Cuts.{costOf}
+use Rattle.multipartition.specs.Plans.{Layout, inShape}
+use Rattle.multipartition.specs.Jobs.{PlanFor, planAnswer}
+use Rattle.multipartition.proofs.Answers.{Small}
+use Rattle.multipartition.proofs.Jobs.{plan-answered, plan-in-shape, plan-small}
 use Rattle.multipartition.proofs.Minimal.{cut-le}
 use Rattle.layout.specs.Plans.{layoutOf, planOf}
 use Rattle.layout.specs.Sized.{Sized}
@@ -51,44 +51,6 @@ prints-front input bytes n h p = record { read = p .read; finds = finds-front in
 place-le : (text : List ℕ) (k : ℕ) → Place text k → k ≤ length text + 1
 place-le text k (inl a) = let within = a .0 .0 in omega arith
 place-le text k (inr a) = let e = a .1 in omega arith
-
-first-outside-le : (k : ℕ) (extents : List ℕ) → firstOutside k extents ≤ k + length extents
-unfolding firstOutside
-first-outside-le k [] = omega arith
-first-outside-le k (n ∷ extents) = go (between 1 1000000 n) (first-outside-le (suc k) extents)
-  where
-    go : (t : Bool) → firstOutside (suc k) extents ≤ suc k + length extents → cond t (firstOutside (suc k) extents) k ≤ k + suc (length extents)
-    go true h = omega arith
-    go false h = omega arith
-
--- a refusal with a number and place of few digits
-abbrev Short : Answer Layout → Type 0
-Short (answered plan) = Unit {0}
-Short (refused number place) = (number < 1000) × (place < 1000)
-
-abbrev AllShort : List Check → Type 0
-AllShort [] = Unit {0}
-AllShort (c ∷ checks) = (c .number < 1000) × (c .place < 1000) × AllShort checks
-
-short-checked : (checks : List Check) (answer : Answer Layout) → AllShort checks → Short answer → Short (checked checks answer)
-short-checked [] answer hs h = h
-short-checked (c ∷ checks) answer hs h = go (c .fails) (short-checked checks answer (hs .2) h)
-  where
-    go : (fails : Bool) → Short (checked checks answer) → Short (cond fails (refused (c .number) (c .place)) (checked checks answer))
-    go true later = (hs .0, hs .1)
-    go false later = later
-
-short-plan : (p d : ℕ) (extents weights : List ℕ) → length extents < 999 → Short (planAnswer p d extents weights)
-unfolding planAnswer planWith
-short-plan p d extents weights few =
-    let outside = first-outside-le 1 extents in
-    short-checked (jobChecks p d extents weights) (planWith p extents weights (cheapest p extents weights))
-    (omega arith, omega arith, (omega arith, omega arith, (omega arith, omega arith, (omega arith, omega arith, tt))))
-    (go (cheapest p extents weights))
-  where
-    go : (o : Option (List ℕ)) → Short (planWith p extents weights o)
-    go none = (omega arith, omega arith)
-    go (some cuts) = tt
 
 -- ---- the output: a plan
 
@@ -133,11 +95,11 @@ length-plan p d extents weights plan small e =
 length-job : (p d : ℕ) (extents weights : List ℕ) → length extents < 999 → ((i : ℕ) → getD weights i 0 ≤ largest)
     → length (answerText (planAnswer p d extents weights)) ≤ longestPlan
 unfolding answerText
-length-job p d extents weights few small = go (planAnswer p d extents weights) refl (short-plan p d extents weights few)
+length-job p d extents weights few small = go (planAnswer p d extents weights) refl (plan-small p d extents weights)
   where
-    go : (a : Answer Layout) → planAnswer p d extents weights ≡ a → Short a → length (answerText a) ≤ longestPlan
+    go : (a : Answer Layout) → planAnswer p d extents weights ≡ a → Small (1 + length extents) a → length (answerText a) ≤ longestPlan
     go (answered plan) e h = length-plan p d extents weights plan small e
-    go (refused number place) e h = omega (arith, length-refused-text 2 number place (h .0) (h .1))
+    go (refused number place) e h = omega (arith, length-refused-text 2 number place (omega (arith, h .1)) (omega (arith, h .2)))
 
 -- for an input of 256 bytes at most
 pub prints-length : (input bytes : List ℕ) → length input ≤ 256 → Prints input bytes → length bytes ≤ longestPlan
