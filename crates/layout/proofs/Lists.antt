@@ -1,7 +1,7 @@
 -- Lists read by places, counted from 0: the definitions that go through a list, one place more at a time, as a loop goes.
 use mathlib.Core.Path.{_≡_, refl}
 use mathlib.Core.Bool.{Bool, true, false, _&&_, and-assoc}
-use mathlib.Core.List.{List, [], _∷_}
+use mathlib.Core.List.{List}
 use mathlib.Core.Logic.{⊎-elim}
 use Prim.Native.Nat.{ℕ, zero, suc, _+_, _*_, _^_, _≤_, _<_}
 use native.Mathlib.Nat.{le-refl, le-trans, lt-of-le-of-lt, eq-or-lt-of-le, mul-le-mul, mul-le-mul-right, mul-one, pow-suc, pow-zero, pow-le-pow-right}
@@ -14,17 +14,12 @@ use Rattle.numbers.specs.Products.{product}
 use Rattle.numbers.proofs.Products.{product-append}
 use Rattle.multipartition.specs.Lists.{allBelow}
 use Rattle.multipartition.proofs.Tests.{and-true-iff, allBelow-true-iff}
+use Rattle.multipartition.proofs.Tiles.{lt-length}
 use Rattle.layout.specs.Shaped.{Factors}
 
 -- both parts of a true `&&`
 pub both : (a b : Bool) → (a && b) ≡ true → (a ≡ true) × (b ≡ true)
 both a b = and-true-iff a b .0
-
--- a number that is not 0 stands in the list
-pub lt-length : (xs : List ℕ) (k : ℕ) → 1 ≤ getD xs k 0 → k < length xs
-lt-length [] k h = absurd (omega arith)
-lt-length (x ∷ xs) zero h = omega arith
-lt-length (x ∷ xs) (suc k) h = omega (arith, lt-length xs k h)
 
 -- numbers that are not 0 all stand in the list
 pub le-length : (n : ℕ) (xs : List ℕ) → ((k : ℕ) → k < n → 1 ≤ getD xs k 0) → n ≤ length xs

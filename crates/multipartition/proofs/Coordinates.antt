@@ -21,10 +21,11 @@ use Rattle.multipartition.specs.MixedRadix.{numberFrom}
 use Rattle.multipartition.specs.Owners.{times, coordinatesAt, ownerAt, ownerOf}
 use Rattle.multipartition.specs.WholeNumbers.{Stands}
 use Rattle.multipartition.proofs.WholeNumbers.{stands-take, stands-remainder, stands-dvd, stands-nat}
+use Rattle.multipartition.proofs.MixedRadix.{numberDown, number-reverse}
 use Rattle.multipartition.proofs.Moduli.{length-moduli, first-modulus, remains, remains-dvd, moduliDown, moduliDown-reverse}
 use Rattle.multipartition.proofs.GridSums.{getD-reverseAux-past}
 use Rattle.multipartition.proofs.Rows.{taken, values}
-use Rattle.multipartition.proofs.Evenness.{numberDown, remaindersDown, ownerDown}
+use Rattle.multipartition.proofs.Evenness.{remaindersDown, ownerDown}
 
 -- ---- the natural rows stand for the rows of whole numbers, column by column
 
@@ -67,21 +68,21 @@ rows-stand p neg k d (b ∷ cuts) moduli = (
 -- ---- a row, as a function of the column, times a position
 
 -- the row f times the position x, whose places are those of dimensions k, k + 1, ..
-unfoldable dot : ℕ → (ℕ → ℕ) → List ℕ → ℕ
+unfoldable pub dot : ℕ → (ℕ → ℕ) → List ℕ → ℕ
 dot k f [] = 0
 dot k f (i ∷ x) = f k * i + dot (suc k) f x
 
-dot-add : (k : ℕ) (f g : ℕ → ℕ) (x : List ℕ) → dot k (λ j. f j + g j) x ≡ dot k f x + dot k g x
+pub dot-add : (k : ℕ) (f g : ℕ → ℕ) (x : List ℕ) → dot k (λ j. f j + g j) x ≡ dot k f x + dot k g x
 unfolding dot
 dot-add k f g [] = refl
 dot-add k f g (i ∷ x) = ap (λ (n : ℕ). (f k + g k) * i + n) (dot-add (suc k) f g x) ∙ omega arith
 
-dot-mul-left : (k c : ℕ) (f : ℕ → ℕ) (x : List ℕ) → dot k (λ j. c * f j) x ≡ c * dot k f x
+pub dot-mul-left : (k c : ℕ) (f : ℕ → ℕ) (x : List ℕ) → dot k (λ j. c * f j) x ≡ c * dot k f x
 unfolding dot
 dot-mul-left k c f [] = sym (mul-zero c)
 dot-mul-left k c f (i ∷ x) = ap (λ (n : ℕ). c * f k * i + n) (dot-mul-left (suc k) c f x) ∙ omega arith
 
-dot-zero : (k : ℕ) (x : List ℕ) → dot k (λ j. 0) x ≡ 0
+pub dot-zero : (k : ℕ) (x : List ℕ) → dot k (λ j. 0) x ≡ 0
 unfolding dot
 dot-zero k [] = refl
 dot-zero k (i ∷ x) = ap (λ (n : ℕ). 0 * i + n) (dot-zero (suc k) x) ∙ omega arith
@@ -95,7 +96,7 @@ dot-same-past k c (i ∷ x) l = ap₂ (λ (m n : ℕ). m * i + n) (same-no k c d
     differ : k ≡ c → ⊥
     differ e = omega arith
 
-dot-same : (k n : ℕ) (x : List ℕ) → dot k (λ j. same j (n + k)) x ≡ getD x n 0
+pub dot-same : (k n : ℕ) (x : List ℕ) → dot k (λ j. same j (n + k)) x ≡ getD x n 0
 unfolding dot
 dot-same k n [] = refl
 dot-same k zero (i ∷ x) =
@@ -109,7 +110,7 @@ dot-same k (suc n) (i ∷ x) =
     differ e = omega arith
 
 -- congruent rows make congruent products
-dot-congruent : (m k : ℕ) (f g : ℕ → ℕ) (x : List ℕ) → ((j : ℕ) → Congruent m (f j) (g j)) → Congruent m (dot k f x) (dot k g x)
+pub dot-congruent : (m k : ℕ) (f g : ℕ → ℕ) (x : List ℕ) → ((j : ℕ) → Congruent m (f j) (g j)) → Congruent m (dot k f x) (dot k g x)
 unfolding dot
 dot-congruent m k f g [] h = refl
 dot-congruent m k f g (i ∷ x) h =
@@ -209,20 +210,8 @@ coordinates-values p neg i1 cuts xs l n e =
 
 -- ---- from dimension 1 up, and from dimension d down
 
-number-reverseAux : (moduli cs moduli' cs' : List ℕ) → length cs ≡ length moduli
-    → numberFrom (numberDown moduli' cs') moduli cs ≡ numberDown (reverseAux moduli moduli') (reverseAux cs cs')
-unfolding numberDown numberFrom
-number-reverseAux [] [] moduli' cs' e = refl
-number-reverseAux [] (c ∷ cs) moduli' cs' e = absurd (suc-ne-zero (length cs) e)
-number-reverseAux (m ∷ moduli) [] moduli' cs' e = absurd (suc-ne-zero (length moduli) (sym e))
-number-reverseAux (m ∷ moduli) (c ∷ cs) moduli' cs' e = number-reverseAux moduli cs (m ∷ moduli') (c ∷ cs') (suc-inj e)
-
-number-reverse : (moduli cs : List ℕ) → length cs ≡ length moduli → numberFrom 0 moduli cs ≡ numberDown (reverse moduli) (reverse cs)
-unfolding numberDown
-number-reverse moduli cs e = number-reverseAux moduli cs [] [] e
-
 -- a row as a list and as a function
-times-listOf : (k n : ℕ) (f : ℕ → ℕ) (x : List ℕ) → length x ≡ n → times (listOf k n f) x ≡ dot k f x
+pub times-listOf : (k n : ℕ) (f : ℕ → ℕ) (x : List ℕ) → length x ≡ n → times (listOf k n f) x ≡ dot k f x
 unfolding times listOf dot
 times-listOf k zero f [] e = refl
 times-listOf k zero f (i ∷ x) e = absurd (suc-ne-zero (length x) e)

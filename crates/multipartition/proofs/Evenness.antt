@@ -14,22 +14,13 @@ use Rattle.numbers.proofs.Gcd.{gcd-dvd-left, gcd-dvd-right, gcd-pos, gcd-rest-p
 use Rattle.numbers.proofs.Sums.{same-yes, same-no, sum-mul-left}
 use Rattle.numbers.proofs.Residues.{count-residue}
 use Rattle.multipartition.specs.Lists.{first, rest}
+use Rattle.multipartition.proofs.MixedRadix.{numberDown, digitsDown}
 use Rattle.multipartition.proofs.Moduli.{remains, remains-dvd, moduliDown, moduliDown-product, othersDown, EvenDown, even-remains}
 use Rattle.multipartition.proofs.GridSums.{sum-cong, same-iff, total-ext, slabTotal, slabTotal-ext, slabTotal-mul-left, slabTotal-swap, placeDown, equal-shares}
 use Rattle.multipartition.proofs.Rows.{taken, reached, values, hits, Below, moduliDown-dividing, modulus-reached-dvd}
 use Rattle.multipartition.proofs.Peel.{shares, peel}
 
 -- ---- the processors by their coordinates, from dimension d down
-
--- the number of the processor with the coordinates cs
-unfoldable pub numberDown : List ℕ → List ℕ → ℕ
-numberDown [] cs = 0
-numberDown (m ∷ moduli) cs = numberDown moduli (rest cs) * m + first cs
-
--- the coordinates of processor q
-unfoldable digitsDown : List ℕ → ℕ → List ℕ
-digitsDown [] q = []
-digitsDown (m ∷ moduli) q = (q % m) ∷ digitsDown moduli (q / m)
 
 -- the remainders of the values ys
 unfoldable pub remaindersDown : List ℕ → List ℕ → List ℕ

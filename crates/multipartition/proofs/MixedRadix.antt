@@ -1,9 +1,9 @@
 -- Digits in mixed radix: a number and its digits are made from each other. The first digit is multiplied by all later bases, and the others
 -- are the same question for the later bases.
 use mathlib.Core.Path.{_≡_, refl, sym, ap, ap₂, _∙_, subst⁻¹}
-use mathlib.Core.List.{List, [], _∷_}
+use mathlib.Core.List.{List, [], _∷_, reverse, reverseAux}
 use Prim.Native.Nat.{ℕ, zero, suc, _+_, _*_, _/_, _%_, _<_, _≤_}
-use native.Mathlib.Nat.{zero-lt-suc, mul-pos, mod-lt, mod-one, mod-eq-of-lt, mul-add-div-right, mul-add-mod-self-right}
+use native.Mathlib.Nat.{zero-lt-suc, suc-ne-zero, suc-inj, mul-pos, mod-lt, mod-one, mod-eq-of-lt, mul-add-div-right, mul-add-mod-self-right}
 use native.Mathlib.Omega.{arith}
 use lib.Arith.{digits-lt, digits-div, mod-mul}
 use lib.ListN.{length, getD, set, drop}
@@ -160,3 +160,27 @@ number-set (b ∷ bases) (c ∷ digits) (suc k) x l m =
       number-first b bases (c ∷ digits),
       number-set bases digits k x (omega arith) (omega arith),
     )
+
+-- ---- from the last base on: bases and digits reversed
+
+-- the number of the digits
+unfoldable pub numberDown : List ℕ → List ℕ → ℕ
+numberDown [] digits = 0
+numberDown (b ∷ bases) digits = numberDown bases (rest digits) * b + first digits
+
+-- the digits of a number
+unfoldable pub digitsDown : List ℕ → ℕ → List ℕ
+digitsDown [] n = []
+digitsDown (b ∷ bases) n = (n % b) ∷ digitsDown bases (n / b)
+
+number-reverseAux : (bases digits bases' digits' : List ℕ) → length digits ≡ length bases
+    → numberFrom (numberDown bases' digits') bases digits ≡ numberDown (reverseAux bases bases') (reverseAux digits digits')
+unfolding numberDown numberFrom
+number-reverseAux [] [] bases' digits' e = refl
+number-reverseAux [] (i ∷ digits) bases' digits' e = absurd (suc-ne-zero (length digits) e)
+number-reverseAux (b ∷ bases) [] bases' digits' e = absurd (suc-ne-zero (length bases) (sym e))
+number-reverseAux (b ∷ bases) (i ∷ digits) bases' digits' e = number-reverseAux bases digits (b ∷ bases') (i ∷ digits') (suc-inj e)
+
+pub number-reverse : (bases digits : List ℕ) → length digits ≡ length bases → numberFrom 0 bases digits ≡ numberDown (reverse bases) (reverse digits)
+unfolding numberDown
+number-reverse bases digits e = number-reverseAux bases digits [] [] e

@@ -202,10 +202,11 @@ some-of-cond-not : (t : Bool) (x next : List ℕ) → cond t none (some x) ≡ s
 some-of-cond-not true x next e = let clash : _≡_ {A = ℕ} 0 1 = cc in absurd (omega arith)
 some-of-cond-not false x next e = (refl, cc)
 
-within : (xs : List ℕ) (k : ℕ) → zero < getD xs k 0 → k < length xs
-within [] k l = absurd (omega arith)
-within (x ∷ xs) zero l = omega arith
-within (x ∷ xs) (suc k) l = omega (arith, within xs k l)
+-- a number that is not 0 stands in the list
+pub lt-length : (xs : List ℕ) (k : ℕ) → zero < getD xs k 0 → k < length xs
+lt-length [] k l = absurd (omega arith)
+lt-length (x ∷ xs) zero l = omega arith
+lt-length (x ∷ xs) (suc k) l = omega (arith, lt-length xs k l)
 
 inside-set : (cuts position : List ℕ) (k i : ℕ) → Inside cuts position → i < getD cuts k 0 → Inside cuts (set position k i)
 unfolding Inside
@@ -234,7 +235,7 @@ module _ (cuts position next : List ℕ) (k : ℕ) where
 
 -- a coordinate that is not 0 is one of the d
 coordinate-below : (cuts position : List ℕ) (k : ℕ) → Inside cuts position → zero < getD position k 0 → getD position k 0 < getD cuts k 0
-coordinate-below cuts position k h l = inside-below cuts position h k (omega (arith, within position k l, inside-length cuts position h))
+coordinate-below cuts position k h l = inside-below cuts position h k (omega (arith, lt-length position k l, inside-length cuts position h))
 
 pub one-step-on-inside : (cuts position next : List ℕ) (k : ℕ) (up : Bool) → Inside cuts position
     → oneStepOn cuts k up position ≡ some next → Inside cuts next
@@ -280,14 +281,14 @@ unfolding oneStepOn
 step-back cuts position next k true h e =
     let i : ℕ = getD position k 0 in
     let taken = up-taken cuts position next k e in
-    let there : k < length position = omega (arith, within cuts k (omega (arith, taken .0)), inside-length cuts position h) in
+    let there : k < length position = omega (arith, lt-length cuts k (omega (arith, taken .0)), inside-length cuts position h) in
     let at-next : getD (set position k (suc i)) k 0 ≡ suc i = getD-set-same position k (suc i) 0 there in
     let down-again : suc i - 1 ≡ i = omega arith in
     rw (← taken .1, at-next, down-again, set-back position k (suc i), ne-eqb (suc i) 0 (λ z. absurd (omega arith)))
 step-back cuts position next k false h e =
     let i : ℕ = getD position k 0 in
     let taken = down-taken cuts position next k e in
-    let there : k < length position = within position k (taken .0) in
+    let there : k < length position = lt-length position k (taken .0) in
     let at-next : getD (set position k (i - 1)) k 0 ≡ i - 1 = getD-set-same position k (i - 1) 0 there in
     let up-again : suc (i - 1) ≡ i = omega (arith, taken .0) in
     rw (← taken .1, at-next, up-again, set-back position k (i - 1), lt-ltb i (getD cuts k 0) (coordinate-below cuts position k h (taken .0)))
