@@ -41,6 +41,27 @@ pub fn fixed() -> Vec<Vec<u8>> {
     lines
         .iter()
         .map(|text| format!("{text}\n").into_bytes())
+        .chain(longest())
+        .collect()
+}
+
+/// The longest readable line, of 132 bytes, with one byte more and without: a program that reads
+/// no further than the line cannot tell them apart.
+fn longest() -> Vec<Vec<u8>> {
+    let line = line(&[4_294_967_295; 12]);
+    let longer = b" \n0".iter().map(|&byte| [&line[..], &[byte]].concat());
+    longer.chain([line.clone()]).collect()
+}
+
+/// Inputs that arrive in two parts: the example, parted anywhere, and the longest line with one
+/// byte more, which comes later.
+pub fn in_parts() -> Vec<[Vec<u8>; 2]> {
+    let part = |input: &[u8], at: usize| [input[..at].to_vec(), input[at..].to_vec()];
+    let example = line(&[4, 3, 8, 8, 8, 1, 1, 1]);
+    let longer = &longest()[0];
+    (0..=example.len())
+        .map(|at| part(&example, at))
+        .chain([part(longer, longer.len() - 1)])
         .collect()
 }
 

@@ -1,6 +1,6 @@
-//! Runs a program on the inputs of document 01, on all short texts, on random jobs and on damaged
-//! lines, and compares what it prints, byte for byte, with the oracle's answer. A printed plan is
-//! also looked at tile by tile.
+//! Runs a program on the inputs of document 01, on all short texts, on lines that arrive in two
+//! parts, on random jobs and on damaged lines, and compares what it prints, byte for byte, with the
+//! oracle's answer. A printed plan is also looked at tile by tile.
 //!
 //!     compare PROGRAM [--seed N] [--count M]
 //!
@@ -10,7 +10,8 @@
 use std::env;
 use std::io::{self, Read, Write};
 use std::process::{Command, ExitCode, Stdio};
-use std::time::Instant;
+use std::thread;
+use std::time::{Duration, Instant};
 
 use oracle::random::Random;
 use oracle::{cases, cuts, inspect, numbers, print, refusal, text};
@@ -43,14 +44,28 @@ fn request() -> Result<Request, String> {
     Ok(request)
 }
 
-/// What the program prints for an input.
-fn run(program: &str, input: &[u8]) -> io::Result<Vec<u8>> {
+/// How long a program has to read one part of its input before the next one comes.
+const BETWEEN_PARTS: Duration = Duration::from_millis(100);
+
+/// Writes one part after the other.
+fn write_parts(mut to: impl Write, parts: &[&[u8]]) -> io::Result<()> {
+    for (at, part) in parts.iter().enumerate() {
+        if at > 0 {
+            thread::sleep(BETWEEN_PARTS);
+        }
+        to.write_all(part)?;
+    }
+    Ok(())
+}
+
+/// What the program prints for an input that arrives in these parts.
+fn run(program: &str, parts: &[&[u8]]) -> io::Result<Vec<u8>> {
     let mut child = Command::new(program)
         .stdin(Stdio::piped())
         .stdout(Stdio::piped())
         .spawn()?;
     // An input is far smaller than a pipe, and a program may stop reading before its end.
-    let written = child.stdin.take().map(|mut stdin| stdin.write_all(input));
+    let written = child.stdin.take().map(|stdin| write_parts(stdin, parts));
     if let Some(Err(error)) = written {
         if error.kind() != io::ErrorKind::BrokenPipe {
             return Err(error);
@@ -68,9 +83,10 @@ fn run(program: &str, input: &[u8]) -> io::Result<Vec<u8>> {
 }
 
 /// Compares one case, and says what differs.
-fn compare(program: &str, input: &[u8], random: &mut Random) -> Result<(), String> {
+fn compare(program: &str, parts: &[&[u8]], random: &mut Random) -> Result<(), String> {
+    let input = &parts.concat();
     let expected = print::answer(input);
-    let printed = run(program, input).map_err(|error| format!("{program}: {error}"))?;
+    let printed = run(program, parts).map_err(|error| format!("{program}: {error}"))?;
     let printed = String::from_utf8_lossy(&printed);
     if printed != expected {
         return Err(difference(&expected, &printed));
@@ -134,6 +150,13 @@ fn all_cases(request: &Request) -> Result<usize, String> {
     let mut random = Random::new(request.seed);
     let mut fixed = cases::fixed();
     fixed.extend(cases::short_texts());
+    let parted = cases::in_parts();
+    for [first, second] in &parted {
+        compare(&request.program, &[first, second], &mut random).map_err(|what| {
+            let (first, second) = (first.escape_ascii(), second.escape_ascii());
+            format!("input \"{first}\" and then \"{second}\"\n{what}")
+        })?;
+    }
     let total = fixed.len() + request.count as usize;
     for at in 0..total {
         let input = match fixed.get(at) {
@@ -141,7 +164,7 @@ fn all_cases(request: &Request) -> Result<usize, String> {
             None if random.once_in(3) => cases::damaged(&mut random),
             None => cases::job(&mut random),
         };
-        compare(&request.program, &input, &mut random).map_err(|what| {
+        compare(&request.program, &[&input], &mut random).map_err(|what| {
             let shown = input.escape_ascii();
             format!(
                 "case {} of seed {}: input \"{shown}\"\n{what}",
@@ -150,7 +173,7 @@ fn all_cases(request: &Request) -> Result<usize, String> {
             )
         })?;
     }
-    Ok(total)
+    Ok(parted.len() + total)
 }
 
 fn main() -> ExitCode {
