@@ -67,7 +67,7 @@ fn answer(input: &[u8], out: &mut [u8]) -> Printed
 }
 
 // The program between its two lists: the first n bytes of `input` were read, and it answers how many bytes of `out` are to be written. READ
-// bytes settle what is printed for the whole input, and ROOM places hold it (proofs/Room).
+// bytes settle what is printed for the whole input, and ROOM places hold it, so that nothing is refused (proofs/Room).
 fn run(input: [u8; READ], n: usize, out: &mut [u8; ROOM]) -> usize
     ensures { λ r. ⌜ Runs (length input) (take n input) (now (out .entry)) (now (out .exit)) r ⌝ }
 {
