@@ -4,3 +4,4 @@ pub mod Shaped
 pub mod Plans
 pub mod Owners
 pub mod Positions
+pub mod Lent

@@ -1,13 +1,27 @@
 -- A plan by its lists, lent to a call that copies none of them.
+use mathlib.Core.Bool.{Bool, _&&_, cond}
 use mathlib.Core.List.{List, []}
 use mathlib.Core.Path.{_≡_}
 use Prim.Native.Nat.{ℕ}
+use lib.Dec.{eqb}
 use lib.ListN.{length}
 use Rattle.layout.specs.declared.Plan.{Plan}
+use Rattle.layout.specs.Plans.{noPlan}
 
--- the plan of the lists; no question reads weights or cost
-abbrev pub planOver : ℕ → ℕ → List ℕ → List ℕ → List ℕ → List ℕ → Plan
-planOver d p extents cuts moduli matrix = record {
+-- the lists have the places that a plan's have
+pub record Lent (extents cuts moduli matrix : List ℕ) : Type 0 where
+  pub extents-places : length extents ≡ 5
+  pub cuts-places : length cuts ≡ 5
+  pub moduli-places : length moduli ≡ 5
+  pub matrix-places : length matrix ≡ 25
+
+-- the same as a test
+abbrev pub isLent : List ℕ → List ℕ → List ℕ → List ℕ → Bool
+isLent extents cuts moduli matrix = eqb (length extents) 5 && eqb (length cuts) 5 && eqb (length moduli) 5 && eqb (length matrix) 25
+
+-- the plan of lists that have these places; no question reads weights or cost
+abbrev pub lentPlan : ℕ → ℕ → List ℕ → List ℕ → List ℕ → List ℕ → Plan
+lentPlan d p extents cuts moduli matrix = record {
   d = d;
   p = p;
   extents = extents;
@@ -18,9 +32,6 @@ planOver d p extents cuts moduli matrix = record {
   matrix = matrix;
 }
 
--- the lists have the places that a plan's have
-pub record Lent (extents cuts moduli matrix : List ℕ) : Type 0 where
-  pub extents-places : length extents ≡ 5
-  pub cuts-places : length cuts ≡ 5
-  pub moduli-places : length moduli ≡ 5
-  pub matrix-places : length matrix ≡ 25
+-- the plan of any lists: those of other lengths make the empty plan, which is out of shape
+unfoldable pub planOver : ℕ → ℕ → List ℕ → List ℕ → List ℕ → List ℕ → Plan
+planOver d p extents cuts moduli matrix = cond (isLent extents cuts moduli matrix) (lentPlan d p extents cuts moduli matrix) noPlan

@@ -7,9 +7,9 @@ ghost use lib.ListN.{length, take};
 ghost use Rattle.numbers.specs.Products.{product};
 ghost use Rattle.multipartition.specs.Lists.{allBelow};
 ghost use Rattle.multipartition.specs.Plans.{between, inShape, tilesOf};
-ghost use Rattle.layout.specs.Plans.{layoutOf};
+ghost use Rattle.layout.specs.Plans.{layoutOf, noPlan};
 ghost use Rattle.layout.specs.Shaped.{Ranges, entryOf, placeFits, Factors, Shaped};
-ghost use Rattle.layout.specs.Lent.{planOver, Lent};
+ghost use Rattle.layout.specs.Lent.{Lent, isLent, lentPlan, planOver};
 
 // Lists hold dimension k at place k - 1, and row i of the matrix stands at places 5 * (i - 1) on. Places past d are zero in the planner's
 // answer and are never read.
@@ -22,6 +22,22 @@ pub struct Plan {
     pub cost: u64,
     pub moduli: [u32; 5],
     pub matrix: [u32; 25],
+}
+
+// The plan of zeros.
+pub fn no_plan() -> Plan
+    ensures { λ r. ⌜ r ≡ noPlan ⌝ }
+{
+    Plan {
+        d: 0,
+        p: 0,
+        extents: [0; 5],
+        weights: [0; 5],
+        cuts: [0; 5],
+        cost: 0,
+        moduli: [0; 5],
+        matrix: [0; 25],
+    }
 }
 
 // Whether an extent and its cut are in range.
@@ -71,7 +87,7 @@ fn places_ok<'a>(
     matrix: &'a [u32],
 ) -> bool
     requires { ⌜ (Ranges d p) × (Lent (now extents) (now cuts) (now moduli) (now matrix)) ⌝ }
-    ensures { λ r. ⌜ r ≡ inShape (layoutOf (planOver d p (now (extents .entry)) (now (cuts .entry)) (now (moduli .entry)) (now (matrix .entry)))) ⌝ }
+    ensures { λ r. ⌜ r ≡ inShape (layoutOf (lentPlan d p (now (extents .entry)) (now (cuts .entry)) (now (moduli .entry)) (now (matrix .entry)))) ⌝ }
 {
     let mut tiles: u64 = 1;
     let mut processors: u64 = 1;
@@ -85,7 +101,19 @@ fn places_ok<'a>(
     (tiles <= 16777216) & (processors == wide(p))
 }
 
-// Whether the plan of lent lists is in shape.
+// Whether lists have the places that a plan's have.
+fn have_places<'a>(
+    extents: &'a [u32],
+    cuts: &'a [u32],
+    moduli: &'a [u32],
+    matrix: &'a [u32],
+) -> bool
+    ensures { λ r. ⌜ r ≡ isLent (now (extents .entry)) (now (cuts .entry)) (now (moduli .entry)) (now (matrix .entry)) ⌝ }
+{
+    (extents.len() == 5) & (cuts.len() == 5) & (moduli.len() == 5) & (matrix.len() == 25)
+}
+
+// Whether the plan of lists, lent, is in shape: that of lists of other lengths than a plan's is not.
 pub fn shape_ok<'a>(
     d: usize,
     p: u32,
@@ -94,9 +122,11 @@ pub fn shape_ok<'a>(
     moduli: &'a [u32],
     matrix: &'a [u32],
 ) -> bool
-    requires { ⌜ Lent (now extents) (now cuts) (now moduli) (now matrix) ⌝ }
     ensures { λ r. ⌜ r ≡ inShape (layoutOf (planOver d p (now (extents .entry)) (now (cuts .entry)) (now (moduli .entry)) (now (matrix .entry)))) ⌝ }
 {
+    if !have_places(extents, cuts, moduli, matrix) {
+        return false;
+    }
     if d < 2 {
         return false;
     }

@@ -25,19 +25,11 @@ pub struct Planned {
 fn refused(number: u32, place: u32) -> Planned
     ensures { λ r. ⌜ r ≡ plannedOf (refusal number place) ⌝ }
 {
+    let none = layout::no_plan();
     Planned {
         number: number,
         place: place,
-        plan: Plan {
-            d: 0,
-            p: 0,
-            extents: [0; 5],
-            weights: [0; 5],
-            cuts: [0; 5],
-            cost: 0,
-            moduli: [0; 5],
-            matrix: [0; 25],
-        },
+        plan: none,
     }
 }
 

@@ -10,7 +10,7 @@ ghost use Rattle.multipartition.specs.Owners.{times, ownerAt};
 ghost use Rattle.multipartition.specs.Neighbours.{turn, nextOwner};
 ghost use Rattle.multipartition.specs.Questions.{ownerAnswer, neighbourAnswer};
 ghost use Rattle.layout.specs.Plans.{rowsFrom, layoutOf};
-ghost use Rattle.layout.specs.Lent.{planOver, Lent};
+ghost use Rattle.layout.specs.Lent.{planOver};
 ghost use Rattle.questions.specs.Bounds.{Reduced, Small, RowBounds};
 ghost use Rattle.questions.specs.Told.{toldOwner, toldNeighbour};
 
@@ -60,7 +60,7 @@ fn coordinate(sum: u32, m: u32) -> u32
 }
 
 // The owner's number, its coordinates taken one after the other.
-fn owner_number<'a>(d: usize, moduli: &'a [u32], matrix: &'a [u32], position: &'a [u32]) -> u32
+pub fn owner_number<'a>(d: usize, moduli: &'a [u32], matrix: &'a [u32], position: &'a [u32]) -> u32
     requires { ⌜ (Reduced d (now moduli) (now matrix)) × (Small d (now position)) × (length (now matrix) ≡ 25) × (length (now position) ≡ d) ⌝ }
     ensures { λ r. ⌜ r ≡ ownerAt (take d (now (moduli .entry))) (rowsFrom d 0 d (now (matrix .entry))) (now (position .entry)) ⌝ }
 {
@@ -72,7 +72,7 @@ fn owner_number<'a>(d: usize, moduli: &'a [u32], matrix: &'a [u32], position: &'
     number
 }
 
-// Who owns a position, of the plan of lent lists.
+// Who owns a position, of the plan of lists, lent: one of lists of other lengths than a plan's is out of shape.
 pub fn owner_over<'a>(
     d: usize,
     p: u32,
@@ -82,7 +82,6 @@ pub fn owner_over<'a>(
     matrix: &'a [u32],
     position: &'a [u32],
 ) -> Owner
-    requires { ⌜ Lent (now extents) (now cuts) (now moduli) (now matrix) ⌝ }
     ensures { λ r. ⌜ toldOwner r ≡ ownerAnswer (layoutOf (planOver d p (now (extents .entry)) (now (cuts .entry)) (now (moduli .entry)) (now (matrix .entry)))) (now (position .entry)) ⌝ }
 {
     if !layout::shape_ok(d, p, extents, cuts, moduli, matrix) {
@@ -171,7 +170,7 @@ pub fn neighbour_number<'a>(
     number
 }
 
-// Who is the neighbour of a processor along a dimension, counted from 1, up or down, of the plan of lent lists.
+// Who is the neighbour of a processor along a dimension, counted from 1, up or down, of the plan of lists, lent, likewise.
 pub fn neighbour_over<'a>(
     d: usize,
     p: u32,
@@ -183,7 +182,6 @@ pub fn neighbour_over<'a>(
     dimension: usize,
     up: bool,
 ) -> Neighbour
-    requires { ⌜ Lent (now extents) (now cuts) (now moduli) (now matrix) ⌝ }
     ensures { λ r. ⌜ toldNeighbour r ≡ neighbourAnswer (layoutOf (planOver d p (now (extents .entry)) (now (cuts .entry)) (now (moduli .entry)) (now (matrix .entry)))) processor dimension up ⌝ }
 {
     if !layout::shape_ok(d, p, extents, cuts, moduli, matrix) {

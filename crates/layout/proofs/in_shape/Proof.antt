@@ -3,6 +3,7 @@ use borrow.Author.Needs.{needs}
 use Prim.Native.Nat.{_-_}
 use Rattle.layout.specs.Plans.{layoutOf}
 use Rattle.multipartition.specs.Plans.{inShape}
+use Rattle.layout.proofs.Lent.{plan-over}
 use Rattle.layout.proofs.in_shape.Statement.{statement}
 use Rattle.layout.proofs.in_shape.Tie as tie
 
@@ -11,7 +12,9 @@ shape-ok-requires c κs = search needs
 
 returns : tie.Need-returns
 unfolding inShape layoutOf
-returns c = c .shape-ok .ensures
+returns c =
+    let plan = c .before .before .before .before .before .before .before .before .before .before .args .t1 in
+    rw (plan-over (plan .extents) (plan .cuts) (plan .moduli) (plan .matrix) (plan .d) (plan .p) (search needs)) at (c .shape-ok .ensures)
 
 pub in-shape-spec : {M : Type 1} → statement M
 in-shape-spec = tie.close (tie.spec shape-ok-requires returns)

@@ -2,7 +2,7 @@
 use borrow.Author.Needs.{needs}
 use Prim.Native.Nat.{_≤_, _-_}
 use native.Mathlib.Omega.{arith}
-use Rattle.layout.specs.Lent.{planOver}
+use Rattle.layout.specs.Lent.{lentPlan}
 use Rattle.layout.proofs.Shaped.{Passed, passed-none, passed-next, tiles-fit, processors-fit, passed-all, failed-check, place-of-shaped}
 use Rattle.layout.proofs.places_ok.Statement.{statement}
 use Rattle.layout.proofs.places_ok.Tie as tie
@@ -22,7 +22,7 @@ place-ok-requires c κs = search needs
 returns : tie.Need-returns Inv-loop μ-loop
 returns c = let s = c .before .before .before .before .before .before .before .before in
     let a = s .args in
-    failed-check (planOver (a .d) (a .p) (a .extents .now) (a .cuts .now) (a .moduli .now) (a .matrix .now)) _ _ (c .before .place-ok .ensures)
+    failed-check (lentPlan (a .d) (a .p) (a .extents .now) (a .cuts .now) (a .moduli .now) (a .matrix .now)) _ _ (c .before .place-ok .ensures)
     (λ h. place-of-shaped _ h (c .before .before .before .loop .k) (omega arith))
     (c .if1 .taken)
 
@@ -72,7 +72,7 @@ returns-2 : tie.Need-returns-2 Inv-loop μ-loop
 returns-2 c = let s = c .before .before .before .before .before .before .before in
     let a = s .args in
     rw (c .wide3 .ensures)
-    (passed-all (planOver (a .d) (a .p) (a .extents .now) (a .cuts .now) (a .moduli .now) (a .matrix .now)) (s .pre .0) _ _ _ (omega arith) (omega arith)
+    (passed-all (lentPlan (a .d) (a .p) (a .extents .now) (a .cuts .now) (a .moduli .now) (a .matrix .now)) (s .pre .0) _ _ _ (omega arith) (omega arith)
     (c .before .before .loop .inv .1))
 
 pub places-ok-spec : {M : Type 1} → statement M

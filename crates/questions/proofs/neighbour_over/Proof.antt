@@ -11,7 +11,8 @@ use Rattle.questions.proofs.Bounds.{reduced-of-shaped}
 use Rattle.layout.proofs.Places.{cut-at}
 use Rattle.layout.proofs.Shaped.{shaped}
 use Rattle.layout.specs.declared.Plan.{Plan}
-use Rattle.layout.specs.Lent.{planOver}
+use Rattle.layout.specs.Lent.{Lent, lentPlan, planOver}
+use Rattle.layout.proofs.Lent.{lent-of-shape, plan-over}
 use Rattle.layout.specs.Plans.{layoutOf}
 use Rattle.multipartition.specs.Plans.{inShape}
 use Rattle.multipartition.specs.Answers.{answered}
@@ -23,11 +24,18 @@ use Rattle.questions.proofs.neighbour_over.Tie as tie
 abbrev plan : tie.Start → Plan
 plan s =
     let a = s .args in
-    planOver (a .d) (a .p) (a .extents .now) (a .cuts .now) (a .moduli .now) (a .matrix .now)
+    lentPlan (a .d) (a .p) (a .extents .now) (a .cuts .now) (a .moduli .now) (a .matrix .now)
 
--- it is in shape, once the first check has passed
+-- once the first check has passed, the lists have a plan's places
+lent : (c : tie.Else1) → let a = c .before .before .before .before .before .before .args in Lent (a .extents .now) (a .cuts .now) (a .moduli .now) (a .matrix .now)
+lent c = lent-of-shape _ _ _ _ _ _ (sym (c .before .shape-ok .ensures) ∙ not-false _ (c .if1 .left))
+
+over : (c : tie.Else1) → let a = c .before .before .before .before .before .before .args in planOver (a .d) (a .p) (a .extents .now) (a .cuts .now) (a .moduli .now) (a .matrix .now) ≡ plan (c .before .before .before .before .before .before)
+over c = plan-over _ _ _ _ _ _ (lent c)
+
+-- and their plan is in shape
 shape : (c : tie.Else1) → inShape (layoutOf (plan (c .before .before .before .before .before .before))) ≡ true
-shape c = sym (c .before .shape-ok .ensures) ∙ not-false _ (c .if1 .left)
+shape c = rw (over c) at (sym (c .before .shape-ok .ensures) ∙ not-false _ (c .if1 .left))
 
 shape-ok-requires : tie.Need-shape-ok-requires
 shape-ok-requires c κs = search needs
@@ -38,33 +46,36 @@ returns c = sym (neighbour-of-misshapen _ _ _ _ (sym (c .before .shape-ok .ensur
 
 returns-2 : tie.Need-returns-2
 unfolding layoutOf
-returns-2 c = sym (neighbour-below-dimensions _ _ _ _ (shape (c .before)) (c .if2 .taken))
+returns-2 c = rw (over (c .before)) (sym (neighbour-below-dimensions _ _ _ _ (shape (c .before)) (c .if2 .taken)))
 
 returns-3 : tie.Need-returns-3
 unfolding layoutOf
-returns-3 c = sym (neighbour-above-dimensions _ _ _ _ (shape (c .before .before)) (c .before .if2 .left) (c .if3 .taken))
+returns-3 c = rw (over (c .before .before)) (sym (neighbour-above-dimensions _ _ _ _ (shape (c .before .before)) (c .before .if2 .left) (c .if3 .taken)))
 
 returns-4 : tie.Need-returns-4
 unfolding layoutOf
 returns-4 c = let b = c .before in
-    sym (neighbour-above-processors _ _ _ _ (shape (b .before .before)) (b .before .if2 .left) (b .if3 .left) (c .if4 .taken))
+    rw (over (b .before .before))
+    (sym (neighbour-above-processors _ _ _ _ (shape (b .before .before)) (b .before .if2 .left) (b .if3 .left) (c .if4 .taken)))
 
 mul-if5 : tie.Need-mul-if5
-mul-if5 c = omega (arith, shaped _ (shape (c .before .before .before)) .d-high)
+mul-if5 c = omega (arith, shaped _ (shape (c .before .before .before)) .d-high, lent (c .before .before .before) .cuts-places)
 
 shared-slice-read-if5 : tie.Need-shared-slice-read-if5
-shared-slice-read-if5 c = omega (arith, shaped _ (shape (c .before .before .before .before)) .d-high)
+shared-slice-read-if5 c = omega (arith, shaped _ (shape (c .before .before .before .before)) .d-high, lent (c .before .before .before .before) .cuts-places)
 
 returns-5 : tie.Need-returns-5
 unfolding layoutOf
 returns-5 c = let b = c .before .before .before in
     let a = c .before .before .before .before .before .before .before .before .before .before .before .args in
-    sym
+    rw (over (b .before .before))
+    (sym
     (no-neighbour _ _ _ _ (shape (b .before .before)) (b .before .if2 .left) (b .if3 .left) (c .before .before .if4 .left)
-    (cut-at (plan (c .before .before .before .before .before .before .before .before .before .before .before)) (a .dimension - 1) (omega arith) ∙ c .if5 .taken))
+    (cut-at (plan (c .before .before .before .before .before .before .before .before .before .before .before)) (a .dimension - 1) (omega arith) ∙ c .if5 .taken)))
 
 neighbour-number-requires : tie.Need-neighbour-number-requires
-neighbour-number-requires c κs = let s = c .before .before .before .before .before .before .before .before .before .before .before in (reduced-of-shaped _ (shaped _ (shape (c .before .before .before .before .before))), s .pre .matrix-places, omega arith)
+neighbour-number-requires c κs =
+    let e = c .before .before .before .before .before in (reduced-of-shaped _ (shaped _ (shape e)), lent e .matrix-places, omega arith)
 
 returns-6 : tie.Need-returns-6
 unfolding layoutOf
@@ -72,10 +83,11 @@ returns-6 c = let e = c .before in
     let b = e .before .before .before in
     let a = c .before .before .before .before .before .before .before .before .before .before .before .before .args in
     let cut = cut-at (plan (c .before .before .before .before .before .before .before .before .before .before .before .before)) (a .dimension - 1) (omega arith) in
-    ap (λ (q : ℕ). answered (some q)) (c .neighbour-number .ensures)
+    rw (over (b .before .before))
+    (ap (λ (q : ℕ). answered (some q)) (c .neighbour-number .ensures)
     ∙ sym
     (a-neighbour _ _ _ _ (shape (b .before .before)) (b .before .if2 .left) (b .if3 .left) (e .before .before .if4 .left)
-    (λ one. e .if5 .left (sym cut ∙ one)))
+    (λ one. e .if5 .left (sym cut ∙ one))))
 
 pub neighbour-over-spec : {M : Type 1} → statement M
 neighbour-over-spec =
