@@ -1,14 +1,19 @@
 -- A plan and its list: the list of a plan is read as that plan.
 use mathlib.Core.Path.{_≡_, refl, sym, ap, _∙_}
 use mathlib.Core.List.{List, [], _∷_, _++_}
-use Prim.Native.Nat.{ℕ, _+_, _*_, _/_, _%_}
+use mathlib.Core.Bool.{Bool}
+use Prim.Native.Nat.{ℕ, _+_, _*_, _/_, _%_, _≤_}
 use native.Mathlib.Nat.{div-add-mod'}
 use native.Mathlib.Omega.{arith}
-use lib.ListN.{length, getD, take, drop, replicate, length-append, length-replicate}
+use lib.Dec.{lit≤}
+use lib.ListN.{length, getD, take, drop, replicate, length-append, length-replicate, length-drop}
 use lib.Seq.{sets, length-take-le, take-all, take-at, drop-at, drop-drop, getD-drop}
-use Rattle.multipartition.specs.Plans.{Layout}
+use Rattle.multipartition.specs.Plans.{Layout, inShape}
+use Rattle.multipartition.specs.Questions.{ownerAnswer, neighbourAnswer}
 use Rattle.layout.specs.declared.Plan.{Plan}
-use Rattle.layout.specs.Plans.{flat, planOf}
+use Rattle.layout.specs.Plans.{flat, planOf, layoutOf}
+use Rattle.layout.specs.Lent.{lentPlan, planOver}
+use Rattle.layout.proofs.Lent.{plan-over}
 use Rattle.solver_link.specs.Link.{planIn, listOfPlan}
 use Rattle.solver_link.proofs.Parts.{sets-append}
 
@@ -102,3 +107,30 @@ module _ (plan : Plan) (arrays : Arrays plan) where
       ≡ sets list 0 (listOfPlan plan)
   unfolding listOfPlan
   sets-parts list = sym (simp (sets-append, arrays .extents-length, arrays .weights-length, arrays .cuts-length, arrays .moduli-length))
+
+-- the parts of a plan list that the questions read
+module _ (list : List ℕ) (long : length list ≡ 49) where
+  part-length : (at n : ℕ) → at + n ≤ 49 → length (take n (drop at list)) ≡ n
+  part-length at n room = length-take-le n (drop at list) (omega (arith, length-drop at list))
+
+  abbrev over : Plan
+  over = planOver (getD list 0 0) (getD list 1 0) (take 5 (drop 2 list)) (take 5 (drop 12 list)) (take 5 (drop 19 list)) (take 25 (drop 24 list))
+
+  over-list : over
+      ≡ lentPlan (getD list 0 0) (getD list 1 0) (take 5 (drop 2 list)) (take 5 (drop 12 list)) (take 5 (drop 19 list)) (take 25 (drop 24 list))
+  over-list =
+      plan-over _ _ _ _ _ _
+      (record {
+        extents-places = part-length 2 5 (lit≤ tt);
+        cuts-places = part-length 12 5 (lit≤ tt);
+        moduli-places = part-length 19 5 (lit≤ tt);
+        matrix-places = part-length 24 25 (lit≤ tt);
+      })
+
+  pub owner-over-list : (position : List ℕ) → ownerAnswer (layoutOf over) position ≡ ownerAnswer (layoutOf (planIn list)) position
+  unfolding ownerAnswer inShape layoutOf planIn
+  owner-over-list position = rw over-list
+
+  pub neighbour-over-list : (q k : ℕ) (up : Bool) → neighbourAnswer (layoutOf over) q k up ≡ neighbourAnswer (layoutOf (planIn list)) q k up
+  unfolding neighbourAnswer inShape layoutOf planIn
+  neighbour-over-list q k up = rw over-list

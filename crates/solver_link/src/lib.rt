@@ -37,13 +37,17 @@ pub extern "C" fn multipartition_plan(
 
 // Who owns a position: the answer list gets the processor.
 #[no_mangle]
-pub extern "C" fn multipartition_owner(plan: &[u32], position: &[u32], answer: &mut [u32]) -> u64
+pub extern "C" fn multipartition_owner<'a>(
+    plan: &'a [u32],
+    position: &'a [u32],
+    answer: &mut [u32],
+) -> u64
     ensures { λ r. ⌜ Linked (ownerLink (now (plan .entry)) (now (position .entry)) (length (now (answer .entry)))) (now (answer .entry)) r (now (answer .exit)) ⌝ }
 {
     if plan.len() != lists::PLAN_LENGTH {
         return 6;
     }
-    let owner = questions::owner_of(lists::plan_in(plan), position);
+    let owner = lists::owner_in(plan, position);
     match owner {
         Owner::Processor(q) => lists::put_one(answer, q),
         Owner::Refused { number, place } => lists::joined(number, place),
@@ -64,12 +68,7 @@ pub extern "C" fn multipartition_neighbour(
     if plan.len() != lists::PLAN_LENGTH {
         return 6;
     }
-    let neighbour = questions::neighbour_of(
-        lists::plan_in(plan),
-        processor,
-        dimension as usize,
-        up != 0,
-    );
+    let neighbour = lists::neighbour_in(plan, processor, dimension as usize, up != 0);
     match neighbour {
         Neighbour::Processor(q) => lists::put_two(answer, 1, q),
         Neighbour::Nobody => lists::put_two(answer, 0, 0),

@@ -1,32 +1,39 @@
 // Plans and answers as lists of 32-bit numbers.
 use layout::Plan;
+use questions::Neighbour;
+use questions::Owner;
+use questions::neighbour_over;
+use questions::owner_over;
 use tiles::positions::Position;
 ghost use mathlib.Core.List.{[], _∷_};
 ghost use mathlib.Core.Path.{_≡_};
 ghost use Prim.Native.Nat.{_+_, _*_, _≤_, _<_};
 ghost use lib.ListN.{length, getD, take, drop};
 ghost use lib.Seq.{sets};
+ghost use Rattle.multipartition.specs.Questions.{ownerAnswer, neighbourAnswer};
+ghost use Rattle.layout.specs.Plans.{layoutOf};
+ghost use Rattle.questions.specs.Told.{toldOwner, toldNeighbour};
 ghost use Rattle.tiles.specs.Positions.{coordinates, positionWith};
 ghost use Rattle.solver_link.specs.Link.{planIn, listOfPlan, into, Linked};
 
 // Where the parts of a plan list start, and how many places it has.
-const D: usize = 0;
+pub const D: usize = 0;
 
-const P: usize = 1;
+pub const P: usize = 1;
 
-const EXTENTS: usize = 2;
+pub const EXTENTS: usize = 2;
 
-const WEIGHTS: usize = 7;
+pub const WEIGHTS: usize = 7;
 
-const CUTS: usize = 12;
+pub const CUTS: usize = 12;
 
-const COST_LOW: usize = 17;
+pub const COST_LOW: usize = 17;
 
-const COST_HIGH: usize = 18;
+pub const COST_HIGH: usize = 18;
 
-const MODULI: usize = 19;
+pub const MODULI: usize = 19;
 
-const MATRIX: usize = 24;
+pub const MATRIX: usize = 24;
 
 pub const PLAN_LENGTH: usize = 49;
 
@@ -92,6 +99,40 @@ pub fn plan_in(list: &[u32]) -> Plan
         moduli: moduli,
         matrix: matrix,
     }
+}
+
+// Who owns a position of the plan of a list, of which nothing is copied.
+pub fn owner_in<'a>(list: &'a [u32], position: &'a [u32]) -> Owner
+    requires { ⌜ length (now list) ≡ 49 ⌝ }
+    ensures { λ r. ⌜ toldOwner r ≡ ownerAnswer (layoutOf (planIn (now (list .entry)))) (now (position .entry)) ⌝ }
+{
+    owner_over(
+        list[D] as usize,
+        list[P],
+        &list[EXTENTS..WEIGHTS],
+        &list[CUTS..COST_LOW],
+        &list[MODULI..MATRIX],
+        &list[MATRIX..PLAN_LENGTH],
+        position,
+    )
+}
+
+// Who is the neighbour of a processor of the plan of a list, likewise.
+pub fn neighbour_in(list: &[u32], processor: u32, dimension: usize, up: bool) -> Neighbour
+    requires { ⌜ length (now list) ≡ 49 ⌝ }
+    ensures { λ r. ⌜ toldNeighbour r ≡ neighbourAnswer (layoutOf (planIn (now (list .entry)))) processor dimension up ⌝ }
+{
+    neighbour_over(
+        list[D] as usize,
+        list[P],
+        &list[EXTENTS..WEIGHTS],
+        &list[CUTS..COST_LOW],
+        &list[MODULI..MATRIX],
+        &list[MATRIX..PLAN_LENGTH],
+        processor,
+        dimension,
+        up,
+    )
 }
 
 // One number into an answer list; 9 if the list has another length.

@@ -11,11 +11,8 @@ returns : tie.Need-returns
 unfolding neighbourLink
 returns c = linked-list-length (c .before .before .before .args .plan .now) _ _ (c .if1 .taken)
 
-plan-in-requires : tie.Need-plan-in-requires
-plan-in-requires c κs = search needs
-
-neighbour-of-requires : tie.Need-neighbour-of-requires
-neighbour-of-requires c κs = search needs
+neighbour-in-requires : tie.Need-neighbour-in-requires
+neighbour-in-requires c κs = search needs
 
 enum-known-neighbour : tie.Need-enum-known-neighbour
 enum-known-neighbour c = search needs
@@ -42,8 +39,8 @@ returns-2 : tie.Need-returns-2
 unfolding neighbourLink
 returns-2 c =
     let o = c .before .before .before .before .before .before .before in
-    let told = sym (rw (o .before .plan-in .ensures) at (o .neighbour-of .ensures)) ∙ ap toldNeighbour (c .before .before .before .before .before .neighbour .given .1) in
-    linked-answered (o .before .before .before .before .before .args .plan .now) _ _ _ (o .before .before .if1 .left) _ told _ _ (c .before .before .put-two .ensures)
+    let told = sym (o .neighbour-in .ensures) ∙ ap toldNeighbour (c .before .before .before .before .before .neighbour .given .1) in
+    linked-answered (o .before .before .before .before .args .plan .now) _ _ _ (o .before .if1 .left) _ told _ _ (c .before .before .put-two .ensures)
 
 same-length-2 : tie.Need-same-length-2
 same-length-2 c = search needs
@@ -52,23 +49,22 @@ returns-3 : tie.Need-returns-3
 unfolding neighbourLink
 returns-3 c =
     let o = c .before .before .before .before .before .before in
-    let told = sym (rw (o .before .plan-in .ensures) at (o .neighbour-of .ensures)) ∙ ap toldNeighbour (c .before .before .before .before .enum-told .given .1) in
-    linked-answered (o .before .before .before .before .before .args .plan .now) _ _ _ (o .before .before .if1 .left) _ told _ _ (c .before .before .put-two2 .ensures)
+    let told = sym (o .neighbour-in .ensures) ∙ ap toldNeighbour (c .before .before .before .before .enum-told .given .1) in
+    linked-answered (o .before .before .before .before .args .plan .now) _ _ _ (o .before .if1 .left) _ told _ _ (c .before .before .put-two2 .ensures)
 
 returns-4 : tie.Need-returns-4
 unfolding neighbourLink
 returns-4 c =
     let o = c .before .before .before .before in
-    let told = sym (rw (o .before .plan-in .ensures) at (o .neighbour-of .ensures)) ∙ ap toldNeighbour (c .before .before .neighbour2 .given .1) in
-    linked-refused (o .before .before .before .before .before .args .plan .now) _ _ _ (o .before .before .if1 .left) _ _ told _ (c .joined .ensures)
+    let told = sym (o .neighbour-in .ensures) ∙ ap toldNeighbour (c .before .before .neighbour2 .given .1) in
+    linked-refused (o .before .before .before .before .args .plan .now) _ _ _ (o .before .if1 .left) _ _ told _ (c .joined .ensures)
 
 pub multipartition-neighbour-spec : {M : Type 1} → statement M
 multipartition-neighbour-spec =
     tie.close
     (tie.spec
     returns
-    plan-in-requires
-    neighbour-of-requires
+    neighbour-in-requires
     enum-known-neighbour
     put-two-requires
     enum-told

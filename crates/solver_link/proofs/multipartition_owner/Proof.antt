@@ -11,11 +11,8 @@ returns : tie.Need-returns
 unfolding ownerLink
 returns c = linked-list-length (c .before .before .before .before .args .plan .now) _ _ (c .if1 .taken)
 
-plan-in-requires : tie.Need-plan-in-requires
-plan-in-requires c κs = search needs
-
-owner-of-requires : tie.Need-owner-of-requires
-owner-of-requires c κs = search needs
+owner-in-requires : tie.Need-owner-in-requires
+owner-in-requires c κs = search needs
 
 enum-known-owner : tie.Need-enum-known-owner
 enum-known-owner c = search needs
@@ -36,23 +33,22 @@ returns-2 : tie.Need-returns-2
 unfolding ownerLink
 returns-2 c =
     let o = c .before .before .before .before .before .before .before in
-    let told = sym (rw (o .before .plan-in .ensures) at (o .owner-of .ensures)) ∙ ap toldOwner (c .before .before .before .before .before .owner .given .1) in
-    linked-answered (o .before .before .before .before .before .before .args .plan .now) _ _ _ (o .before .before .if1 .left) _ told _ _ (c .before .before .put-one .ensures)
+    let told = sym (o .owner-in .ensures) ∙ ap toldOwner (c .before .before .before .before .before .owner .given .1) in
+    linked-answered (o .before .before .before .before .before .args .plan .now) _ _ _ (o .before .if1 .left) _ told _ _ (c .before .before .put-one .ensures)
 
 returns-3 : tie.Need-returns-3
 unfolding ownerLink
 returns-3 c =
     let o = c .before .before .before .before in
-    let told = sym (rw (o .before .plan-in .ensures) at (o .owner-of .ensures)) ∙ ap toldOwner (c .before .before .owner2 .given .1) in
-    linked-refused (o .before .before .before .before .before .before .args .plan .now) _ _ _ (o .before .before .if1 .left) _ _ told _ (c .joined .ensures)
+    let told = sym (o .owner-in .ensures) ∙ ap toldOwner (c .before .before .owner2 .given .1) in
+    linked-refused (o .before .before .before .before .before .args .plan .now) _ _ _ (o .before .if1 .left) _ _ told _ (c .joined .ensures)
 
 pub multipartition-owner-spec : {M : Type 1} → statement M
 multipartition-owner-spec =
     tie.close
     (tie.spec
     returns
-    plan-in-requires
-    owner-of-requires
+    owner-in-requires
     enum-known-owner
     put-one-requires
     enum-known-owner-2
