@@ -51,12 +51,15 @@ fn row_times<'a>(d: usize, i: usize, matrix: &'a [u32], position: &'a [u32]) -> 
     sum
 }
 
-// A row times a position, modulo the row's modulus.
-fn coordinate(sum: u32, m: u32) -> u32
-    requires { ⌜ 1 ≤ m ⌝ }
-    ensures { λ r. ⌜ r ≡ sum % m ⌝ }
+// Row i times the position, modulo m. Modulo 1, as a plan's first modulus is, there is nothing to add up.
+fn coordinate<'a>(d: usize, i: usize, m: u32, matrix: &'a [u32], position: &'a [u32]) -> u32
+    requires { ⌜ (1 ≤ m) × (RowBounds d i (now matrix) (now position)) ⌝ }
+    ensures { λ r. ⌜ r ≡ times (take d (drop (i * 5) (now (matrix .entry)))) (now (position .entry)) % m ⌝ }
 {
-    sum % m
+    if m == 1 {
+        return 0;
+    }
+    row_times(d, i, matrix, position) % m
 }
 
 // The owner's number, its coordinates taken one after the other.
@@ -67,7 +70,7 @@ pub fn owner_number<'a>(d: usize, moduli: &'a [u32], matrix: &'a [u32], position
     let mut number: u32 = 0;
     for i in 0..d {
         let m = moduli[i];
-        number = number * m + coordinate(row_times(d, i, matrix, position), m);
+        number = number * m + coordinate(d, i, m, matrix, position);
     }
     number
 }

@@ -1,9 +1,9 @@
 -- `questions::owner_number` meets its contract. Assumes nothing.
 use borrow.Author.Needs.{needs}
-use mathlib.Core.Path.{_≡_, _∙_, sym, ap}
+use mathlib.Core.Path.{_≡_, sym}
 use Prim.Native.Nat.{_≤_, _-_}
 use native.Mathlib.Omega.{arith}
-use Prim.Native.Nat.{ℕ, _+_, _*_, _%_}
+use Prim.Native.Nat.{ℕ, _+_, _*_}
 use lib.ListN.{getD}
 use Rattle.questions.proofs.Owners.{ownerFront, owner-front-none, owner-front-next, owner-front-high, owner-front-room, owner-front-all}
 use Rattle.questions.proofs.Bounds.{small-row}
@@ -30,39 +30,38 @@ mul-number c = let s = c .before .before .before .before .before .before in
     let l = c .before .before .loop in
     omega (arith, owner-front-room _ _ _ (s .args .position .now) (s .pre .0) (l .i) (l .number) (omega arith) (l .inv .1))
 
-row-times-requires : tie.Need-row-times-requires Inv-loop μ-loop
-row-times-requires c κs =
-    let s = c .before .before .before .before .before .before in
-    record {
-      row-high = omega (arith, s .pre .0 .few);
-      row-small = small-row _ _ _ (s .pre .0) (c .before .before .loop .i) (omega arith);
-      position-small = s .pre .1;
-      matrix-places = s .pre .2;
-      coordinates = s .pre .3;
-    }
-
 coordinate-requires : tie.Need-coordinate-requires Inv-loop μ-loop
 coordinate-requires c κs =
-    c .before .before .before .before .before .before .before .pre .0 .modulus-low (c .before .before .before .loop .i) (omega arith)
+    let s = c .before .before .before .before .before .before in
+    let i = c .before .before .loop .i in (
+      s .pre .0 .modulus-low i (omega arith),
+      record {
+        row-high = omega (arith, s .pre .0 .few);
+        row-small = small-row _ _ _ (s .pre .0) i (omega arith);
+        position-small = s .pre .1;
+        matrix-places = s .pre .2;
+        coordinates = s .pre .3;
+      },
+    )
 
 -- the number with the coordinate that this turn adds
 abbrev Next : tie.After-coordinate Inv-loop μ-loop → Type 0
 Next c =
-    let s = c .before .before .before .before .before .before .before .before in
-    let l = c .before .before .before .before .loop in
+    let s = c .before .before .before .before .before .before .before in
+    let l = c .before .before .before .loop in
     let m : ℕ = getD (s .args .moduli .now) (l .i) 0 in
     l .number * m + c .coordinate .result ≡ ownerFront (s .args .d) (s .args .moduli .now) (s .args .matrix .now) (s .args .position .now) (l .i + 1)
 
 next : (c : tie.After-coordinate Inv-loop μ-loop) → Next c
 next c =
-    let s = c .before .before .before .before .before .before .before .before in
-    let l = c .before .before .before .before .loop in
+    let s = c .before .before .before .before .before .before .before in
+    let l = c .before .before .before .loop in
     owner-front-next _ _ _ _ (s .pre .0) (l .i) (l .number) (c .coordinate .result) (omega arith) (l .inv .1)
-    (c .coordinate .ensures ∙ ap (λ (n : ℕ). n % getD (s .args .moduli .now) (l .i) 0) (c .before .row-times .ensures))
+    (c .coordinate .ensures)
 
 add-number : tie.Need-add-number Inv-loop μ-loop
-add-number c = let s = c .before .before .before .before .before .before .before .before in
-    let l = c .before .before .before .before .loop in
+add-number c = let s = c .before .before .before .before .before .before .before in
+    let l = c .before .before .before .loop in
     record {
       fits = rw (next c) (omega (arith, owner-front-high _ _ _ (s .args .position .now) (s .pre .0) (l .i + 1) (omega arith)));
     }
@@ -89,7 +88,6 @@ owner-number-spec =
     mul-m
     shared-slice-read-m
     mul-number
-    row-times-requires
     coordinate-requires
     add-number
     add-i
