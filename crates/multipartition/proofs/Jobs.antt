@@ -104,23 +104,6 @@ module _ (p d : ℕ) (extents weights : List ℕ) where
   unfolding planAnswer
   plan-of-passed job = checked-passed (jobChecks p d extents weights) (planWith p extents weights (cheapest p extents weights)) (job-passes-iff .1 job)
 
-  -- a refusal has a number from 1 on, and one of two digits
-  pub plan-small : Small (1 + length extents) (planAnswer p d extents weights)
-  unfolding planAnswer planWith
-  plan-small =
-      checked-small (1 + length extents) (jobChecks p d extents weights) (planWith p extents weights (cheapest p extents weights)) (
-        (omega arith, omega arith, omega arith),
-        (
-          (omega arith, omega arith, omega arith),
-          ((omega arith, omega arith, omega arith), ((omega arith, omega arith, first-outside-le 1 extents), tt)),
-        ),
-      )
-      (go (cheapest p extents weights))
-    where
-      go : (o : Option (List ℕ)) → Small (1 + length extents) (planWith p extents weights o)
-      go none = (omega arith, omega arith, omega arith)
-      go (some cuts) = tt
-
   -- "Refusal 5 is for the jobs with no even, fitting cuts and for those only."
   pub refused-five-iff : Passed p d extents weights → (planAnswer p d extents weights ≡ refused 5 0) ↔ ((cuts : List ℕ) → Fits extents cuts → Even p cuts → ⊥)
   unfolding planWith
@@ -139,6 +122,23 @@ module _ (p d : ℕ) (extents weights : List ℕ) where
           go : (o : Option (List ℕ)) → cheapest p extents weights ≡ o → planWith p extents weights o ≡ refused 5 0
           go none f = refl
           go (some u) f = absurd (h u (cheapest-fits p extents weights u f) (cheapest-even p extents weights u f))
+
+  -- a refusal has a number from 1 on, and one of two digits
+  pub plan-small : Small (1 + length extents) (planAnswer p d extents weights)
+  unfolding planAnswer planWith
+  plan-small =
+      checked-small (1 + length extents) (jobChecks p d extents weights) (planWith p extents weights (cheapest p extents weights)) (
+        (omega arith, omega arith, omega arith),
+        (
+          (omega arith, omega arith, omega arith),
+          ((omega arith, omega arith, omega arith), ((omega arith, omega arith, first-outside-le 1 extents), tt)),
+        ),
+      )
+      (go (cheapest p extents weights))
+    where
+      go : (o : Option (List ℕ)) → Small (1 + length extents) (planWith p extents weights o)
+      go none = (omega arith, omega arith, omega arith)
+      go (some cuts) = tt
 
   module _ (plan : Layout) where
     pub plan-answered : planAnswer p d extents weights ≡ answered plan → PlanFor p d extents weights plan
