@@ -27,7 +27,7 @@ array-share-prefix-cuts : tie.Need-array-share-prefix-cuts
 array-share-prefix-cuts c = search needs
 
 slice-aggregate-put-line-4 : tie.Need-slice-aggregate-put-line-4
-slice-aggregate-put-line-4 c = sym (length-take-le _ _ (c .before .before .before .before .before .before .before .before .before .before .before .before .before .pre .cuts-long))
+slice-aggregate-put-line-4 c = sym (length-take-le _ _ (search needs))
 
 put-line-requires-2 : tie.Need-put-line-requires-2
 put-line-requires-2 c κs = search needs
@@ -42,7 +42,7 @@ array-share-prefix-moduli : tie.Need-array-share-prefix-moduli
 array-share-prefix-moduli c = search needs
 
 slice-aggregate-put-line-6 : tie.Need-slice-aggregate-put-line-6
-slice-aggregate-put-line-6 c = sym (length-take-le _ _ (c .before .before .before .before .before .before .before .before .before .before .before .before .before .before .before .before .before .before .before .before .before .before .before .pre .moduli-long))
+slice-aggregate-put-line-6 c = sym (length-take-le _ _ (search needs))
 
 put-line-requires-3 : tie.Need-put-line-requires-3
 put-line-requires-3 c κs = search needs
