@@ -5,7 +5,7 @@ use Prim.Native.Nat.{ℕ, suc, _+_, _-_, _*_, _≤_, _<_}
 use native.Mathlib.Omega.{arith}
 use lib.ListN.{length, getD, take, drop, replicate, length-append}
 use lib.Seq.{take-take, take-at, drop-at, take-append-le, take-append-add, drop-drop, length-take-le}
-use Rattle.multipartition.specs.Plans.{Layout, layoutWith}
+use Rattle.multipartition.specs.Plans.{Job, Layout, layoutWith}
 use Rattle.multipartition.proofs.Moduli.{length-moduli}
 use Rattle.multipartition.proofs.Matrix.{length-matrix, length-matrix-row}
 use Rattle.layout.specs.Plans.{rowsFrom, layoutOf, five, flat, planOf}
@@ -63,15 +63,15 @@ layout-of-plan layout s =
       matrix-of-flat (layout .d) (layout .matrix) (s .few) (s .matrix-length) (s .row-length),
     )
 
--- the planner's layout, with a weight and a cut for each extent
-pub layout-with-sized : (p : ℕ) (extents weights cuts : List ℕ) → length extents ≤ 5 → length weights ≡ length extents
-    → length cuts ≡ length extents → Sized (layoutWith p extents weights cuts)
-layout-with-sized p extents weights cuts few many same-many = record {
+-- the planner's layout, with an extent, a weight and a cut for each dimension
+pub layout-with-sized : (job : Job) (cuts : List ℕ) → job .d ≤ 5 → length (job .extents) ≡ job .d → length (job .weights) ≡ job .d
+    → length cuts ≡ job .d → Sized (layoutWith job cuts)
+layout-with-sized job cuts few extents-many weights-many cuts-many = record {
   few = few;
-  extents-length = refl;
-  weights-length = many;
-  cuts-length = same-many;
-  moduli-length = length-moduli p cuts ∙ same-many;
-  matrix-length = length-matrix p cuts ∙ same-many;
-  row-length = λ i l. length-matrix-row p cuts i (omega (arith, same-many)) ∙ same-many;
+  extents-length = extents-many;
+  weights-length = weights-many;
+  cuts-length = cuts-many;
+  moduli-length = length-moduli (job .p) cuts ∙ cuts-many;
+  matrix-length = length-matrix (job .p) cuts ∙ cuts-many;
+  row-length = λ i l. length-matrix-row (job .p) cuts i (omega (arith, cuts-many)) ∙ cuts-many;
 }

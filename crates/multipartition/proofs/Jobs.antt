@@ -12,9 +12,9 @@ use borrow.Author.Tests.{eqb-true, eq-eqb, not-false}
 use lib.Dec.{eqb}
 use lib.ListN.{length, getD}
 use Rattle.multipartition.specs.Answers.{answered, refused}
-use Rattle.multipartition.specs.Cuts.{Fits, Even, cheapest}
-use Rattle.multipartition.specs.Plans.{Layout, layoutWith, between, inShape}
-use Rattle.multipartition.specs.Jobs.{Passed, PlanFor, firstOutside, jobChecks, planWith, planAnswer}
+use Rattle.multipartition.specs.Cuts.{Fits, Even}
+use Rattle.multipartition.specs.Plans.{Job, Layout, layoutWith, between, inShape}
+use Rattle.multipartition.specs.Jobs.{Passed, PlanFor, firstOutside, jobChecks, cheapestFor, planWith, planAnswer}
 use Rattle.multipartition.proofs.Answers.{AllPass, Small, checked-passed, checked-answered, checked-small}
 use Rattle.multipartition.proofs.Cheapest.{cheapest-even, cheapest-none}
 use Rattle.multipartition.proofs.Fitting.{cheapest-fits}
@@ -58,19 +58,19 @@ first-outside-le k (n ∷ extents) =
     let later = first-outside-le (suc k) extents in
     by-cond (λ (place : ℕ). place ≤ k + suc (length extents)) (between 1 1000000 n) (firstOutside (suc k) extents) k (λ e. omega arith) (λ e. omega arith)
 
-module _ (p d : ℕ) (extents weights : List ℕ) where
+module _ (job : Job) where
   -- the lines 1 to 4 of the table, and what it takes to pass them
-  pub job-passes-iff : AllPass (jobChecks p d extents weights) ↔ Passed p d extents weights
+  pub job-passes-iff : AllPass (jobChecks job) ↔ Passed job
   unfolding Extent
   job-passes-iff = (there, back)
     where
-      there : AllPass (jobChecks p d extents weights) → Passed p d extents weights
+      there : AllPass (jobChecks job) → Passed job
       there h =
-          let d-range = between-true-iff 2 5 d .0 (not-false (between 2 5 d) (h .0)) in
-          let p-range = between-true-iff 1 4096 p .0 (not-false (between 1 4096 p) (h .1 .0)) in
-          let many = or-false (not (eqb (length extents) d)) (not (eqb (length weights) d)) (h .1 .1 .0) in
-          let extents-many : length extents ≡ d = eqb-true (length extents) d (not-false (eqb (length extents) d) (many .0)) in
-          let inside = extents-of-firstOutside 0 extents (eqb-true (firstOutside 1 extents) 0 (not-false (eqb (firstOutside 1 extents) 0) (h .1 .1 .1 .0))) in
+          let d-range = between-true-iff 2 5 (job .d) .0 (not-false (between 2 5 (job .d)) (h .0)) in
+          let p-range = between-true-iff 1 4096 (job .p) .0 (not-false (between 1 4096 (job .p)) (h .1 .0)) in
+          let many = or-false (not (eqb (length (job .extents)) (job .d))) (not (eqb (length (job .weights)) (job .d))) (h .1 .1 .0) in
+          let extents-many : length (job .extents) ≡ job .d = eqb-true (length (job .extents)) (job .d) (not-false (eqb (length (job .extents)) (job .d)) (many .0)) in
+          let inside = extents-of-firstOutside 0 (job .extents) (eqb-true (firstOutside 1 (job .extents)) 0 (not-false (eqb (firstOutside 1 (job .extents)) 0) (h .1 .1 .1 .0))) in
           record {
             range = record {
               p-low = p-range .0;
@@ -81,18 +81,18 @@ module _ (p d : ℕ) (extents weights : List ℕ) where
               extent-high = λ k l. inside k l .1;
             };
             extents-many = extents-many;
-            weights-many = eqb-true (length weights) d (not-false (eqb (length weights) d) (many .1));
+            weights-many = eqb-true (length (job .weights)) (job .d) (not-false (eqb (length (job .weights)) (job .d)) (many .1));
           }
 
-      back : Passed p d extents weights → AllPass (jobChecks p d extents weights)
-      back job = (
-        rw (between-true-iff 2 5 d .1 (subst (λ (n : ℕ). (2 ≤ n) × (n ≤ 5)) (job .extents-many) (job .range .d-low, job .range .d-high))),
+      back : Passed job → AllPass (jobChecks job)
+      back passed = (
+        rw (between-true-iff 2 5 (job .d) .1 (subst (λ (n : ℕ). (2 ≤ n) × (n ≤ 5)) (passed .extents-many) (passed .range .d-low, passed .range .d-high))),
         (
-          rw (between-true-iff 1 4096 p .1 (job .range .p-low, job .range .p-high)),
+          rw (between-true-iff 1 4096 (job .p) .1 (passed .range .p-low, passed .range .p-high)),
           (
-            rw (eq-eqb (length extents) d (job .extents-many), eq-eqb (length weights) d (job .weights-many)),
+            rw (eq-eqb (length (job .extents)) (job .d) (passed .extents-many), eq-eqb (length (job .weights)) (job .d) (passed .weights-many)),
             (
-              rw (eq-eqb (firstOutside 1 extents) 0 (firstOutside-of-extents 1 extents (λ k l. (job .range .extent-low k l, job .range .extent-high k l)))),
+              rw (eq-eqb (firstOutside 1 (job .extents)) 0 (firstOutside-of-extents 1 (job .extents) (λ k l. (passed .range .extent-low k l, passed .range .extent-high k l)))),
               tt,
             ),
           ),
@@ -100,64 +100,64 @@ module _ (p d : ℕ) (extents weights : List ℕ) where
       )
 
   -- a job that passes is answered by the cheapest cuts
-  pub plan-of-passed : Passed p d extents weights → planAnswer p d extents weights ≡ planWith p extents weights (cheapest p extents weights)
+  pub plan-of-passed : Passed job → planAnswer job ≡ planWith job (cheapestFor job)
   unfolding planAnswer
-  plan-of-passed job = checked-passed (jobChecks p d extents weights) (planWith p extents weights (cheapest p extents weights)) (job-passes-iff .1 job)
+  plan-of-passed passed = checked-passed (jobChecks job) (planWith job (cheapestFor job)) (job-passes-iff .1 passed)
 
   -- "Refusal 5 is for the jobs with no even, fitting cuts and for those only."
-  pub refused-five-iff : Passed p d extents weights → (planAnswer p d extents weights ≡ refused 5 0) ↔ ((cuts : List ℕ) → Fits extents cuts → Even p cuts → ⊥)
+  pub refused-five-iff : Passed job → (planAnswer job ≡ refused 5 0) ↔ ((cuts : List ℕ) → Fits (job .extents) cuts → Even (job .p) cuts → ⊥)
   unfolding planWith
-  refused-five-iff job = (there, back)
+  refused-five-iff passed = (there, back)
     where
-      there : planAnswer p d extents weights ≡ refused 5 0 → (cuts : List ℕ) → Fits extents cuts → Even p cuts → ⊥
-      there e cuts fits even = go (cheapest p extents weights) refl (sym (plan-of-passed job) ∙ e)
+      there : planAnswer job ≡ refused 5 0 → (cuts : List ℕ) → Fits (job .extents) cuts → Even (job .p) cuts → ⊥
+      there e cuts fits even = go (cheapestFor job) refl (sym (plan-of-passed passed) ∙ e)
         where
-          go : (o : Option (List ℕ)) → cheapest p extents weights ≡ o → planWith p extents weights o ≡ refused 5 0 → ⊥
-          go none f e = cheapest-none p extents weights cuts f fits even
+          go : (o : Option (List ℕ)) → cheapestFor job ≡ o → planWith job o ≡ refused 5 0 → ⊥
+          go none f e = cheapest-none (job .p) (job .extents) (job .weights) cuts f fits even
           go (some u) f e = let clash : _≡_ {A = ℕ} 0 1 = cc in omega arith
 
-      back : ((cuts : List ℕ) → Fits extents cuts → Even p cuts → ⊥) → planAnswer p d extents weights ≡ refused 5 0
-      back h = plan-of-passed job ∙ go (cheapest p extents weights) refl
+      back : ((cuts : List ℕ) → Fits (job .extents) cuts → Even (job .p) cuts → ⊥) → planAnswer job ≡ refused 5 0
+      back h = plan-of-passed passed ∙ go (cheapestFor job) refl
         where
-          go : (o : Option (List ℕ)) → cheapest p extents weights ≡ o → planWith p extents weights o ≡ refused 5 0
+          go : (o : Option (List ℕ)) → cheapestFor job ≡ o → planWith job o ≡ refused 5 0
           go none f = refl
-          go (some u) f = absurd (h u (cheapest-fits p extents weights u f) (cheapest-even p extents weights u f))
+          go (some u) f = absurd (h u (cheapest-fits (job .p) (job .extents) (job .weights) u f) (cheapest-even (job .p) (job .extents) (job .weights) u f))
 
   -- a refusal has a number from 1 on, and one of two digits
-  pub plan-small : Small (1 + length extents) (planAnswer p d extents weights)
+  pub plan-small : Small (1 + length (job .extents)) (planAnswer job)
   unfolding planAnswer planWith
   plan-small =
-      checked-small (1 + length extents) (jobChecks p d extents weights) (planWith p extents weights (cheapest p extents weights)) (
+      checked-small (1 + length (job .extents)) (jobChecks job) (planWith job (cheapestFor job)) (
         (omega arith, omega arith, omega arith),
         (
           (omega arith, omega arith, omega arith),
-          ((omega arith, omega arith, omega arith), ((omega arith, omega arith, first-outside-le 1 extents), tt)),
+          ((omega arith, omega arith, omega arith), ((omega arith, omega arith, first-outside-le 1 (job .extents)), tt)),
         ),
       )
-      (go (cheapest p extents weights))
+      (go (cheapestFor job))
     where
-      go : (o : Option (List ℕ)) → Small (1 + length extents) (planWith p extents weights o)
+      go : (o : Option (List ℕ)) → Small (1 + length (job .extents)) (planWith job o)
       go none = (omega arith, omega arith, omega arith)
       go (some cuts) = tt
 
   module _ (plan : Layout) where
-    pub plan-answered : planAnswer p d extents weights ≡ answered plan → PlanFor p d extents weights plan
+    pub plan-answered : planAnswer job ≡ answered plan → PlanFor job plan
     unfolding planAnswer planWith
     plan-answered e =
-        let asked = checked-answered (jobChecks p d extents weights) (planWith p extents weights (cheapest p extents weights)) plan .0 e in
-        let made = chosen (cheapest p extents weights) refl (asked .1) in
+        let asked = checked-answered (jobChecks job) (planWith job (cheapestFor job)) plan .0 e in
+        let made = chosen (cheapestFor job) refl (asked .1) in
         record { passed = job-passes-iff .0 (asked .0); cuts-are = made .0; plan-is = made .1 }
       where
-        chosen : (o : Option (List ℕ)) → cheapest p extents weights ≡ o → planWith p extents weights o ≡ answered plan
-            → (cheapest p extents weights ≡ some (plan .cuts)) × (plan ≡ layoutWith p extents weights (plan .cuts))
+        chosen : (o : Option (List ℕ)) → cheapestFor job ≡ o → planWith job o ≡ answered plan
+            → (cheapestFor job ≡ some (plan .cuts)) × (plan ≡ layoutWith job (plan .cuts))
         chosen none f e = let clash : _≡_ {A = ℕ} 0 1 = cc in absurd (omega arith)
         chosen (some cuts) f e =
-            let is : plan ≡ layoutWith p extents weights cuts = cc in
+            let is : plan ≡ layoutWith job cuts = cc in
             let cuts-is : cuts ≡ plan .cuts = sym (ap (λ (l : Layout). l .cuts) is) in
-            (f ∙ ap some cuts-is, is ∙ ap (layoutWith p extents weights) cuts-is)
+            (f ∙ ap some cuts-is, is ∙ ap (layoutWith job) cuts-is)
 
     -- a plan that is answered is in shape
-    pub plan-in-shape : planAnswer p d extents weights ≡ answered plan → inShape plan ≡ true
+    pub plan-in-shape : planAnswer job ≡ answered plan → inShape plan ≡ true
     plan-in-shape e =
         let made = plan-answered e in
-        subst⁻¹ (λ (l : Layout). inShape l ≡ true) (made .plan-is) (layout-in-shape p extents weights (plan .cuts) (made .passed .range) (made .cuts-are))
+        subst⁻¹ (λ (l : Layout). inShape l ≡ true) (made .plan-is) (layout-in-shape job (plan .cuts) (made .passed) (made .cuts-are))

@@ -11,13 +11,13 @@ use lib.Dec.{leb, ltb, eqb}
 use lib.ListN.{length, getD}
 use Rattle.numbers.specs.Products.{product}
 use Rattle.multipartition.specs.Lists.{allBelow}
-use Rattle.multipartition.specs.Cuts.{Fits, cheapest}
+use Rattle.multipartition.specs.Cuts.{Fits}
 use Rattle.multipartition.specs.Moduli.{moduliOf}
 use Rattle.multipartition.specs.Owners.{ownerAt}
 use Rattle.multipartition.specs.Neighbours.{neighbourAt}
 use Rattle.multipartition.specs.Tiles.{Inside, oneStepOn}
-use Rattle.multipartition.specs.Jobs.{InRange}
-use Rattle.multipartition.specs.Plans.{Layout, layoutWith, tilesOf, between, dimensionOk, entryAt, rowOk, inShape, InShape}
+use Rattle.multipartition.specs.Jobs.{InRange, Passed, cheapestFor}
+use Rattle.multipartition.specs.Plans.{Job, Layout, layoutWith, tilesOf, between, dimensionOk, entryAt, rowOk, inShape, InShape}
 use Rattle.multipartition.proofs.Tests.{and-iff, all-iff, leb-iff, ltb-iff, eqb-iff, between-true-iff}
 use Rattle.multipartition.proofs.MixedRadix.{Positive}
 use Rattle.multipartition.proofs.Tiles.{positive-of-product}
@@ -122,31 +122,37 @@ module _ (plan : Layout) (shape : inShape plan ≡ true) where
 -- ---- the planner's plans
 
 -- The planner's plan is in shape.
-pub layout-in-shape : (p : ℕ) (extents weights cuts : List ℕ) → InRange p extents → cheapest p extents weights ≡ some cuts
-    → inShape (layoutWith p extents weights cuts) ≡ true
-layout-in-shape p extents weights cuts range e =
-    in-shape-iff (layoutWith p extents weights cuts) .1
+pub layout-in-shape : (job : Job) (cuts : List ℕ) → Passed job → cheapestFor job ≡ some cuts → inShape (layoutWith job cuts) ≡ true
+layout-in-shape job cuts passed e =
+    in-shape-iff (layoutWith job cuts) .1
     (record {
-      d-range = (range .d-low, range .d-high);
+      d-range = (omega (arith, passed .extents-many, range .d-low), omega (arith, passed .extents-many, range .d-high));
       p-range = (range .p-low, range .p-high);
-      extent-range = λ k l. (range .extent-low k l, range .extent-high k l);
+      extent-range = λ k l. (range .extent-low k (extent k l), range .extent-high k (extent k l));
       cut-range = λ k l. (
-        positive-at cuts (fits-positive extents cuts fits) k (inside k l),
-        fits-le-extent extents cuts fits k (inside k l),
-        cut-le p extents weights cuts e (range .p-low) (range .p-high) k (inside k l),
+        positive-at cuts (fits-positive (job .extents) cuts fits) k (inside k l),
+        fits-le-extent (job .extents) cuts fits k (inside k l),
+        cut-le (job .p) (job .extents) (job .weights) cuts e (range .p-low) (range .p-high) k (inside k l),
       );
-      tiles-high = tiles-le p extents weights cuts e (range .p-low) (range .p-high);
+      tiles-high = tiles-le (job .p) (job .extents) (job .weights) cuts e (range .p-low) (range .p-high);
       modulus-low = λ i l.
-          positive-at (moduliOf p cuts) (moduli-positive p cuts (range .p-low)) i (subst⁻¹ (λ (n : ℕ). i < n) (length-moduli p cuts) (inside i l));
-      moduli-product = moduli-product p cuts (omega (arith, same-length, range .d-low)) (cheapest-even p extents weights cuts e);
-      entry-below = λ i j l m. matrix-entry-below p cuts (range .p-low) i j (inside i l);
+          positive-at (moduliOf (job .p) cuts) (moduli-positive (job .p) cuts (range .p-low)) i
+          (subst⁻¹ (λ (n : ℕ). i < n) (length-moduli (job .p) cuts) (inside i l));
+      moduli-product = moduli-product (job .p) cuts (omega (arith, same-length, range .d-low)) (cheapest-even (job .p) (job .extents) (job .weights) cuts e);
+      entry-below = λ i j l m. matrix-entry-below (job .p) cuts (range .p-low) i j (inside i l);
     })
   where
-    fits : Fits extents cuts
-    fits = cheapest-fits p extents weights cuts e
+    range : InRange (job .p) (job .extents)
+    range = passed .range
 
-    same-length : length cuts ≡ length extents
-    same-length = fits-length extents cuts fits
+    fits : Fits (job .extents) cuts
+    fits = cheapest-fits (job .p) (job .extents) (job .weights) cuts e
 
-    inside : (k : ℕ) → k < length extents → k < length cuts
-    inside k l = subst⁻¹ (λ (n : ℕ). k < n) same-length l
+    same-length : length cuts ≡ length (job .extents)
+    same-length = fits-length (job .extents) cuts fits
+
+    extent : (k : ℕ) → k < job .d → k < length (job .extents)
+    extent k l = subst⁻¹ (λ (n : ℕ). k < n) (passed .extents-many) l
+
+    inside : (k : ℕ) → k < job .d → k < length cuts
+    inside k l = subst⁻¹ (λ (n : ℕ). k < n) same-length (extent k l)

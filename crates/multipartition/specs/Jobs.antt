@@ -8,7 +8,7 @@ use lib.Dec.{eqb}
 use lib.ListN.{length, getD}
 use Rattle.multipartition.specs.Answers.{Answer, answered, refused, Check, checked}
 use Rattle.multipartition.specs.Cuts.{cheapest}
-use Rattle.multipartition.specs.Plans.{Layout, layoutWith, between}
+use Rattle.multipartition.specs.Plans.{Job, Layout, layoutWith, between}
 
 -- "d: 2 to 5. p: 1 to 4,096. Extent: 1 to 1,000,000."
 pub record InRange (p : ℕ) (extents : List ℕ) : Type 0 where
@@ -20,10 +20,10 @@ pub record InRange (p : ℕ) (extents : List ℕ) : Type 0 where
   pub extent-high : (k : ℕ) → k < length extents → getD extents k 0 ≤ 1000000
 
 -- a job that passes the lines 1 to 4 of the table
-pub record Passed (p d : ℕ) (extents weights : List ℕ) : Type 0 where
-  pub range : InRange p extents
-  pub extents-many : length extents ≡ d
-  pub weights-many : length weights ≡ d
+pub record Passed (job : Job) : Type 0 where
+  pub range : InRange (job .p) (job .extents)
+  pub extents-many : length (job .extents) ≡ job .d
+  pub weights-many : length (job .weights) ≡ job .d
 
 -- "an extent out of range; place: first such dimension", counted on from k; 0 if there is none
 unfoldable pub firstOutside : ℕ → List ℕ → ℕ
@@ -31,25 +31,29 @@ firstOutside k [] = 0
 firstOutside k (n ∷ extents) = cond (between 1 1000000 n) (firstOutside (suc k) extents) k
 
 -- the lines 1 to 4 of the table
-abbrev pub jobChecks : ℕ → ℕ → List ℕ → List ℕ → List Check
-jobChecks p d extents weights =
-    record { fails = not (between 2 5 d); number = 1; place = 0 }
-    ∷ record { fails = not (between 1 4096 p); number = 2; place = 0 }
-    ∷ record { fails = not (eqb (length extents) d) || not (eqb (length weights) d); number = 3; place = 0 }
-    ∷ record { fails = not (eqb (firstOutside 1 extents) 0); number = 4; place = firstOutside 1 extents }
+abbrev pub jobChecks : Job → List Check
+jobChecks job =
+    record { fails = not (between 2 5 (job .d)); number = 1; place = 0 }
+    ∷ record { fails = not (between 1 4096 (job .p)); number = 2; place = 0 }
+    ∷ record { fails = not (eqb (length (job .extents)) (job .d)) || not (eqb (length (job .weights)) (job .d)); number = 3; place = 0 }
+    ∷ record { fails = not (eqb (firstOutside 1 (job .extents)) 0); number = 4; place = firstOutside 1 (job .extents) }
     ∷ []
 
+-- the cuts chosen for a job
+abbrev pub cheapestFor : Job → Option (List ℕ)
+cheapestFor job = cheapest (job .p) (job .extents) (job .weights)
+
 -- "no even, fitting cuts" is a 5; else the plan has the cuts chosen
-unfoldable pub planWith : ℕ → List ℕ → List ℕ → Option (List ℕ) → Answer Layout
-planWith p extents weights none = refused 5 0
-planWith p extents weights (some cuts) = answered (layoutWith p extents weights cuts)
+unfoldable pub planWith : Job → Option (List ℕ) → Answer Layout
+planWith job none = refused 5 0
+planWith job (some cuts) = answered (layoutWith job cuts)
 
 -- the planner's answer
-unfoldable pub planAnswer : ℕ → ℕ → List ℕ → List ℕ → Answer Layout
-planAnswer p d extents weights = checked (jobChecks p d extents weights) (planWith p extents weights (cheapest p extents weights))
+unfoldable pub planAnswer : Job → Answer Layout
+planAnswer job = checked (jobChecks job) (planWith job (cheapestFor job))
 
 -- what the answer `plan` to a job says
-pub record PlanFor (p d : ℕ) (extents weights : List ℕ) (plan : Layout) : Type 0 where
-  pub passed : Passed p d extents weights
-  pub cuts-are : cheapest p extents weights ≡ some (plan .cuts)
-  pub plan-is : plan ≡ layoutWith p extents weights (plan .cuts)
+pub record PlanFor (job : Job) (plan : Layout) : Type 0 where
+  pub passed : Passed job
+  pub cuts-are : cheapestFor job ≡ some (plan .cuts)
+  pub plan-is : plan ≡ layoutWith job (plan .cuts)

@@ -1,4 +1,4 @@
--- What a plan holds, and when it is in shape (document 01, "Quantities" and "Where each call turns back").
+-- What a job and a plan hold, and when a plan is in shape (document 01, "Quantities" and "Where each call turns back").
 use mathlib.Core.Bool.{Bool, _&&_}
 use mathlib.Core.List.{List, []}
 use mathlib.Core.Path.{_≡_}
@@ -10,6 +10,16 @@ use Rattle.multipartition.specs.Lists.{allBelow}
 use Rattle.multipartition.specs.Cuts.{costOf}
 use Rattle.multipartition.specs.Moduli.{moduliOf}
 use Rattle.multipartition.specs.Matrix.{matrixOf}
+
+-- "The planner takes a processor count p, a number of dimensions d, d extents and d weights": a job has them, as many as there are.
+pub record Job : Type 0 where
+  pub p : ℕ
+  pub d : ℕ
+  pub extents : List ℕ
+  pub weights : List ℕ
+
+abbrev pub jobWith : ℕ → ℕ → List ℕ → List ℕ → Job
+jobWith p d extents weights = record { p = p; d = d; extents = extents; weights = weights }
 
 -- "A plan holds d, p, extents, weights, cuts, cost, moduli, matrix": each list has d numbers, the matrix d rows of d numbers. "Places past d
 -- .. are never read": a layout has none.
@@ -23,17 +33,21 @@ pub record Layout : Type 0 where
   pub moduli : List ℕ
   pub matrix : List (List ℕ)
 
+-- the job that a plan holds
+abbrev pub jobOf : Layout → Job
+jobOf plan = jobWith (plan .p) (plan .d) (plan .extents) (plan .weights)
+
 -- the planner's plan with the cuts that it chose
-abbrev pub layoutWith : ℕ → List ℕ → List ℕ → List ℕ → Layout
-layoutWith p extents weights cuts = record {
-  d = length extents;
-  p = p;
-  extents = extents;
-  weights = weights;
+abbrev pub layoutWith : Job → List ℕ → Layout
+layoutWith job cuts = record {
+  d = job .d;
+  p = job .p;
+  extents = job .extents;
+  weights = job .weights;
   cuts = cuts;
-  cost = costOf weights cuts;
-  moduli = moduliOf p cuts;
-  matrix = matrixOf p cuts;
+  cost = costOf (job .weights) cuts;
+  moduli = moduliOf (job .p) cuts;
+  matrix = matrixOf (job .p) cuts;
 }
 
 -- "tiles = b1 × ... × bd"

@@ -8,6 +8,7 @@ use lib.Dec.{eqb}
 use lib.ListN.{length, getD}
 use Rattle.multipartition.specs.Lists.{count}
 use Rattle.multipartition.specs.Cuts.{Fits}
+use Rattle.multipartition.specs.Plans.{Job}
 use Rattle.multipartition.specs.Tiles.{Inside, positions}
 
 -- cuts of a class "together with one owner, 0 to p - 1, for each tile position. The owners may follow any rule or none"
@@ -18,8 +19,8 @@ pub record RivalAmong (p : ℕ) (Class : List ℕ → Type 0) : Type 0 where
   pub below : (position : List ℕ) → Inside cuts position → owner position < p
 
 -- "A rival is any fitting cuts" with such owners.
-abbrev pub Rival : ℕ → List ℕ → Type 0
-Rival p extents = RivalAmong p (Fits extents)
+abbrev pub Rival : Job → Type 0
+Rival job = RivalAmong (job .p) (Fits (job .extents))
 
 -- how many tiles of slab s of dimension k the processor q owns
 unfoldable pub held : List ℕ → (List ℕ → ℕ) → ℕ → ℕ → ℕ → ℕ

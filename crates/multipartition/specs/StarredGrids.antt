@@ -8,7 +8,7 @@ use Rattle.multipartition.specs.Lists.{listOf}
 use Rattle.multipartition.specs.Answers.{Answer, answered, refused}
 use Rattle.multipartition.specs.Neighbours.{neighbourAt}
 use Rattle.multipartition.specs.Chains.{headsOf, nextsOf}
-use Rattle.multipartition.specs.Plans.{Layout, tilesOf}
+use Rattle.multipartition.specs.Plans.{Layout, jobWith, tilesOf}
 use Rattle.multipartition.specs.Questions.{tileOwner}
 use Rattle.multipartition.specs.Jobs.{planAnswer}
 
@@ -51,7 +51,7 @@ pub record Grid : Type 0 where
 
 -- the figures of a line as the definitions have them
 abbrev pub computed : Grid → List Figure
-computed grid = map (figureOf (planAnswer (grid .p) (length (grid .extents)) (grid .extents) (grid .weights))) (grid .answer)
+computed grid = map (figureOf (planAnswer (jobWith (grid .p) (length (grid .extents)) (grid .extents) (grid .weights)))) (grid .answer)
 
 -- the starred lines
 abbrev pub starred : List Grid

@@ -42,7 +42,7 @@ module _ {input lent list : List ℕ} {printed : Printed} (r : JobLine) (reads :
     right = record { read = answered (take count (r .numbers)); finds = finds-numbers input r reads count e; prints = refl };
     handed = subst (λ (a : Answer (List ℕ)). Hands a printed lent list)
         (ap (λ (p : Planned). plannedAnswer p (length lent)) is
-        ∙ planned-answer (getD (r .numbers) 0 0) (getD (r .numbers) 1 0) _ _ (length lent)
+        ∙ planned-answer _ (length lent)
         ∙ ap (λ (a : Answer Layout). textAnswer (answerText a) (length lent)) (sym (program-numbers count (r .numbers) (count-enough input r reads count e) (count-within input r reads count e))))
         h;
   }

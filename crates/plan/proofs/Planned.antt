@@ -1,11 +1,10 @@
 -- What the planner's answer by value prints is what its answer prints: its plans are in shape, and its refusals have numbers.
 use mathlib.Core.Path.{_≡_, refl, ap, _∙_}
-use mathlib.Core.List.{List}
 use Prim.Native.Nat.{ℕ}
 use native.Mathlib.Omega.{arith}
 use borrow.Author.Tests.{ne-eqb}
 use Rattle.multipartition.specs.Answers.{Answer, answered, refused}
-use Rattle.multipartition.specs.Plans.{Layout}
+use Rattle.multipartition.specs.Plans.{Job, Layout}
 use Rattle.multipartition.specs.Jobs.{planAnswer}
 use Rattle.multipartition.proofs.Jobs.{plan-in-shape}
 use Rattle.layout.proofs.Plans.{layout-of-plan}
@@ -16,13 +15,13 @@ use Rattle.plan_text.specs.Told.{textAnswer, printAnswer}
 use Rattle.plan_text.proofs.Handing.{print-in-shape}
 use Rattle.plan.specs.Printed.{plannedAnswer}
 
-pub planned-answer : (p d : ℕ) (extents weights : List ℕ) (places : ℕ)
-    → plannedAnswer (plannedOf (planAnswer p d extents weights)) places ≡ textAnswer (answerText (planAnswer p d extents weights)) places
+pub planned-answer : (job : Job) (places : ℕ)
+    → plannedAnswer (plannedOf (planAnswer job)) places ≡ textAnswer (answerText (planAnswer job)) places
 unfolding plannedAnswer plannedOf answerText
-planned-answer p d extents weights places = go (planAnswer p d extents weights) refl (numbered-plan p d extents weights)
+planned-answer job places = go (planAnswer job) refl (numbered-plan job)
   where
-    go : (a : Answer Layout) → planAnswer p d extents weights ≡ a → Numbered a → plannedAnswer (plannedOf a) places ≡ textAnswer (answerText a) places
+    go : (a : Answer Layout) → planAnswer job ≡ a → Numbered a → plannedAnswer (plannedOf a) places ≡ textAnswer (answerText a) places
     go (answered plan) e h =
-        ap (λ (l : Layout). printAnswer l places) (layout-of-plan plan (plan-sized p d extents weights plan e))
-        ∙ print-in-shape plan places (plan-in-shape p d extents weights plan e)
+        ap (λ (l : Layout). printAnswer l places) (layout-of-plan plan (plan-sized job plan e))
+        ∙ print-in-shape plan places (plan-in-shape job plan e)
     go (refused number place) e h = rw (ne-eqb number 0 (λ z. omega arith))

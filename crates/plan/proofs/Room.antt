@@ -11,7 +11,7 @@ use lib.Seq.{getD-drop}
 use Rattle.numerals.proofs.Decimal.{lt-or-le}
 use Rattle.multipartition.specs.Answers.{Answer, answered, refused}
 use Rattle.multipartition.specs.Cuts.{costOf}
-use Rattle.multipartition.specs.Plans.{Layout, inShape}
+use Rattle.multipartition.specs.Plans.{Job, Layout, jobWith, inShape}
 use Rattle.multipartition.specs.Jobs.{PlanFor, planAnswer}
 use Rattle.multipartition.proofs.Answers.{Small}
 use Rattle.multipartition.proofs.Jobs.{plan-answered, plan-in-shape, plan-small}
@@ -62,43 +62,43 @@ cost-le c w (x ∷ weights) (b ∷ cuts) h k =
     let later = cost-le c w weights cuts (λ i. h (suc i)) (λ i. k (suc i)) in
     omega arith
 
-length-plan : (p d : ℕ) (extents weights : List ℕ) (plan : Layout) → ((i : ℕ) → getD weights i 0 ≤ largest)
-    → planAnswer p d extents weights ≡ answered plan → length (planText plan) ≤ longestPlan
+length-plan : (job : Job) (plan : Layout) → ((i : ℕ) → getD (job .weights) i 0 ≤ largest)
+    → planAnswer job ≡ answered plan → length (planText plan) ≤ longestPlan
 unfolding planOf
-length-plan p d extents weights plan small e =
+length-plan job plan small e =
     subst (λ (l : Layout). length (planText l) ≤ longestPlan) whole (length-plan-text (planOf plan) (shaped (planOf plan) in-shape) cost-high)
   where
-    made : PlanFor p d extents weights plan
-    made = plan-answered p d extents weights plan e
+    made : PlanFor job plan
+    made = plan-answered job plan e
 
     sized : Sized plan
-    sized = plan-sized p d extents weights plan e
+    sized = plan-sized job plan e
 
     whole : layoutOf (planOf plan) ≡ plan
     whole = layout-of-plan plan sized
 
     in-shape : inShape (layoutOf (planOf plan)) ≡ true
-    in-shape = ap inShape whole ∙ plan-in-shape p d extents weights plan e
+    in-shape = ap inShape whole ∙ plan-in-shape job plan e
 
     cut-high : (i : ℕ) → getD (plan .cuts) i 0 ≤ 4096
     cut-high i =
         ⊎-elim
-        (λ l. cut-le p extents weights (plan .cuts) (made .cuts-are) (made .passed .range .p-low) (made .passed .range .p-high) i l)
+        (λ l. cut-le (job .p) (job .extents) (job .weights) (plan .cuts) (made .cuts-are) (made .passed .range .p-low) (made .passed .range .p-high) i l)
         (λ l. omega (arith, List·getD-eq-default (plan .cuts) 0 l))
         (lt-or-le i (length (plan .cuts)))
 
     cost-high : plan .cost < 10 ^ 20
     cost-high =
         omega
-        (arith, ap (λ (l : Layout). l .cost) (made .plan-is), cost-le 4096 largest weights (plan .cuts) small cut-high, sized .cuts-length, sized .few)
+        (arith, ap (λ (l : Layout). l .cost) (made .plan-is), cost-le 4096 largest (job .weights) (plan .cuts) small cut-high, sized .cuts-length, sized .few)
 
-length-job : (p d : ℕ) (extents weights : List ℕ) → length extents < 999 → ((i : ℕ) → getD weights i 0 ≤ largest)
-    → length (answerText (planAnswer p d extents weights)) ≤ longestPlan
+length-job : (job : Job) → length (job .extents) < 999 → ((i : ℕ) → getD (job .weights) i 0 ≤ largest)
+    → length (answerText (planAnswer job)) ≤ longestPlan
 unfolding answerText
-length-job p d extents weights few small = go (planAnswer p d extents weights) refl (plan-small p d extents weights)
+length-job job few small = go (planAnswer job) refl (plan-small job)
   where
-    go : (a : Answer Layout) → planAnswer p d extents weights ≡ a → Small (1 + length extents) a → length (answerText a) ≤ longestPlan
-    go (answered plan) e h = length-plan p d extents weights plan small e
+    go : (a : Answer Layout) → planAnswer job ≡ a → Small (1 + length (job .extents)) a → length (answerText a) ≤ longestPlan
+    go (answered plan) e h = length-plan job plan small e
     go (refused number place) e h = omega (arith, length-refused-text 2 number place (omega (arith, h .1)) (omega (arith, h .2)))
 
 -- for an input of 256 bytes at most
@@ -110,7 +110,7 @@ prints-length input bytes few p = rw (p .prints) (go (p .read) (p .finds))
     go (answered numbers) f =
         let d = getD numbers 1 0 in
         let rest : List ℕ = drop 2 numbers in
-        length-job (getD numbers 0 0) d (take d rest) (drop d rest)
+        length-job (jobWith (getD numbers 0 0) d (take d rest) (drop d rest))
         (omega (arith, length-take d rest, length-drop 2 numbers, f .0 .few))
         (λ i. omega (arith, getD-drop d rest i 0, getD-drop 2 numbers (d + i) 0, all-at largest numbers (f .0 .small) (2 + (d + i))))
     go (refused number place) f =

@@ -4,7 +4,7 @@ use mathlib.Core.List.{List, _++_}
 use Prim.Native.Nat.{ℕ}
 use lib.ListN.{length, getD, take, drop}
 use Rattle.multipartition.specs.Answers.{Answer, answered, refused}
-use Rattle.multipartition.specs.Plans.{Layout}
+use Rattle.multipartition.specs.Plans.{Layout, jobWith}
 use Rattle.multipartition.specs.Jobs.{planAnswer}
 use Rattle.job_text.specs.Readable.{Finds}
 use Rattle.plan_text.specs.PlanText.{answerText}
@@ -14,7 +14,7 @@ use Rattle.plan_text.specs.Told.{textAnswer, Hands}
 -- The job of a line is "p, d, the extents, the weights": of the numbers after d the first d are the extents and all others the weights, so
 -- that "3 applies if the numbers after d are not 2·d many".
 unfoldable pub jobAnswer : ℕ → ℕ → List ℕ → Answer Layout
-jobAnswer p d numbers = planAnswer p d (take d numbers) (drop d numbers)
+jobAnswer p d numbers = planAnswer (jobWith p d (take d numbers) (drop d numbers))
 
 -- "The text is checked before all else": "after the text come the job checks"
 unfoldable pub programAnswer : Answer (List ℕ) → Answer Layout

@@ -12,6 +12,7 @@ use Rattle.multipartition.specs.Moduli.{moduliOf}
 use Rattle.multipartition.specs.Matrix.{remainder, finish, finishedRows, rowsOf, remaindersOf, matrixOf}
 use Rattle.multipartition.specs.MixedRadix.{numberFrom, digitsOf}
 use Rattle.multipartition.specs.Neighbours.{columnOf, turn, turned, nextOwner, neighbourAt}
+use Rattle.multipartition.specs.Plans.{jobWith}
 use Rattle.multipartition.specs.Jobs.{firstOutside, planWith, planAnswer}
 use Rattle.plan_text.specs.PlanText.{joined, processors, upLine, planText, answerText}
 
@@ -29,6 +30,6 @@ exampleText =
     ++ bytesOf "up 2 3 2 1 0\n"
     ++ bytesOf "up 3 1 0 3 2\n"
 
-pub example-printed : answerText (planAnswer 4 3 (8 ∷ 8 ∷ 8 ∷ []) (1 ∷ 1 ∷ 1 ∷ [])) ≡ exampleText
+pub example-printed : answerText (planAnswer (jobWith 4 3 (8 ∷ 8 ∷ 8 ∷ []) (1 ∷ 1 ∷ 1 ∷ []))) ≡ exampleText
 unfolding decimal decimalWithin gcd same allBelow listOf startingWith those isEven cutsWithin notLater precedes preferred chosen cheapestWithin moduliOf remainder finish finishedRows rowsOf remaindersOf matrixOf numberFrom digitsOf columnOf turn turned nextOwner neighbourAt firstOutside planWith planAnswer joined processors upLine planText answerText
 example-printed = refl

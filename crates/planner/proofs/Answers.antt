@@ -1,10 +1,10 @@
 -- The planner's answer: a refusal has a number from 1 on, so that 0 tells a plan from a refusal, and a plan fits its five places.
-use mathlib.Core.Path.{_≡_, sym, _∙_, subst⁻¹}
-use mathlib.Core.List.{List}
-use Prim.Native.Nat.{ℕ, _+_, _≤_}
+use mathlib.Core.Path.{_≡_, _∙_, subst⁻¹}
+use Prim.Native.Nat.{_+_, _≤_}
+use native.Mathlib.Omega.{arith}
 use lib.ListN.{length}
 use Rattle.multipartition.specs.Answers.{Answer, answered, refused}
-use Rattle.multipartition.specs.Plans.{Layout}
+use Rattle.multipartition.specs.Plans.{Job, Layout}
 use Rattle.multipartition.specs.Jobs.{planAnswer}
 use Rattle.multipartition.proofs.Fitting.{cheapest-fits, fits-length}
 use Rattle.multipartition.proofs.Answers.{Small}
@@ -16,17 +16,18 @@ abbrev pub Numbered : Answer Layout → Type 0
 Numbered (answered plan) = Unit {0}
 Numbered (refused number place) = 1 ≤ number
 
-pub numbered-plan : (p d : ℕ) (extents weights : List ℕ) → Numbered (planAnswer p d extents weights)
-numbered-plan p d extents weights = go (planAnswer p d extents weights) (plan-small p d extents weights)
+pub numbered-plan : (job : Job) → Numbered (planAnswer job)
+numbered-plan job = go (planAnswer job) (plan-small job)
   where
-    go : (a : Answer Layout) → Small (1 + length extents) a → Numbered a
+    go : (a : Answer Layout) → Small (1 + length (job .extents)) a → Numbered a
     go (answered plan) h = tt
     go (refused number place) h = h .0
 
-pub plan-sized : (p d : ℕ) (extents weights : List ℕ) (plan : Layout) → planAnswer p d extents weights ≡ answered plan → Sized plan
-plan-sized p d extents weights plan e =
-    let made = plan-answered p d extents weights plan e in
-    let cuts = plan .cuts in
+pub plan-sized : (job : Job) (plan : Layout) → planAnswer job ≡ answered plan → Sized plan
+plan-sized job plan e =
+    let made = plan-answered job plan e in
+    let passed = made .passed in
+    let fits = cheapest-fits (job .p) (job .extents) (job .weights) (plan .cuts) (made .cuts-are) in
     subst⁻¹ Sized (made .plan-is)
-    (layout-with-sized p extents weights cuts (made .passed .range .d-high) (made .passed .weights-many ∙ sym (made .passed .extents-many))
-    (fits-length extents cuts (cheapest-fits p extents weights cuts (made .cuts-are))))
+    (layout-with-sized job (plan .cuts) (omega (arith, passed .range .d-high, passed .extents-many)) (passed .extents-many) (passed .weights-many)
+    (fits-length (job .extents) (plan .cuts) fits ∙ passed .extents-many))

@@ -9,14 +9,14 @@ use lib.ListN.{length, take, replicate, length-append, length-replicate}
 use lib.Seq.{take-at}
 use Rattle.multipartition.specs.Answers.{refused}
 use Rattle.multipartition.specs.Cuts.{costOf, cheapest}
-use Rattle.multipartition.specs.Plans.{layoutWith}
+use Rattle.multipartition.specs.Plans.{jobWith, layoutWith}
 use Rattle.multipartition.specs.Jobs.{planWith}
 use Rattle.multipartition.proofs.Fitting.{cheapest-fits, fits-length}
 use Rattle.layout.specs.declared.Plan.{Plan}
 use Rattle.layout.specs.Plans.{five, planOf}
 use Rattle.matrix.proofs.Padding.{at-padded, is-five}
 use Rattle.planner.specs.Planned.{plannedOf}
-use Rattle.cuts.specs.Found.{isChosen, chosenCost, chosenCuts, Chosen, Job}
+use Rattle.cuts.specs.Found.{isChosen, chosenCost, chosenCuts, Chosen, Asked}
 
 -- zeros up to five places
 padded-is-five : (u : List ℕ) → length u ≤ 5 → u ++ replicate (5 - length u) 0 ≡ five u
@@ -32,7 +32,7 @@ pub record Cut (p : ℕ) (extents weights : List ℕ) (cost : ℕ) (cuts : List 
   pub summed : cost ≡ costOf weights (take (length extents) cuts)
 
 module _ (p : ℕ) (extents weights : List ℕ) (cost : ℕ) (cuts : List ℕ) where
-  pub cut : (ok : Bool) → ok ≡ true → Job p extents weights → Chosen p extents weights ok cost cuts → Cut p extents weights cost cuts
+  pub cut : (ok : Bool) → ok ≡ true → Asked p extents weights → Chosen p extents weights ok cost cuts → Cut p extents weights cost cuts
   cut ok t job chosen = go (cheapest p extents weights) refl (sym t ∙ chosen .ok-is) (chosen .cost-is) (chosen .cuts-are)
     where
       go : (o : Option (List ℕ)) → cheapest p extents weights ≡ o → true ≡ isChosen o → cost ≡ chosenCost weights o → cuts ≡ chosenCuts o
@@ -61,13 +61,13 @@ module _ (p : ℕ) (extents weights : List ℕ) (cost : ℕ) (cuts : List ℕ) w
       go (some u) f = let clash : _≡_ {A = ℕ} 0 1 = cc in absurd (omega arith)
 
 -- the answer with the cuts chosen, and where there are none
-pub answered-with : (p : ℕ) (extents weights u : List ℕ) (plan : Plan) → cheapest p extents weights ≡ some u → plan ≡ planOf (layoutWith p extents weights u)
-    → record { number = 0; place = 0; plan = plan } ≡ plannedOf (planWith p extents weights (cheapest p extents weights))
+pub answered-with : (p : ℕ) (extents weights u : List ℕ) (plan : Plan) → cheapest p extents weights ≡ some u → plan ≡ planOf (layoutWith (jobWith p (length extents) extents weights) u)
+    → record { number = 0; place = 0; plan = plan } ≡ plannedOf (planWith (jobWith p (length extents) extents weights) (cheapest p extents weights))
 unfolding plannedOf planWith
 answered-with p extents weights u plan e f =
-    (λ i. record { number = 0; place = 0; plan = f i }) ∙ sym (ap (λ (o : Option (List ℕ)). plannedOf (planWith p extents weights o)) e)
+    (λ i. record { number = 0; place = 0; plan = f i }) ∙ sym (ap (λ (o : Option (List ℕ)). plannedOf (planWith (jobWith p (length extents) extents weights) o)) e)
 
 pub refused-5 : (p : ℕ) (extents weights : List ℕ) → cheapest p extents weights ≡ none
-    → plannedOf (refused 5 0) ≡ plannedOf (planWith p extents weights (cheapest p extents weights))
+    → plannedOf (refused 5 0) ≡ plannedOf (planWith (jobWith p (length extents) extents weights) (cheapest p extents weights))
 unfolding planWith
-refused-5 p extents weights e = sym (ap (λ (o : Option (List ℕ)). plannedOf (planWith p extents weights o)) e)
+refused-5 p extents weights e = sym (ap (λ (o : Option (List ℕ)). plannedOf (planWith (jobWith p (length extents) extents weights) o)) e)

@@ -10,9 +10,8 @@ use borrow.Author.Tests.{lt-ltb, le-ltb, le-leb, lt-leb, ne-eqb, eq-eqb, eqb-tru
 use lib.Dec.{leb, ltb, eqb}
 use lib.ListN.{length}
 use Rattle.multipartition.specs.Answers.{refused}
-use Rattle.multipartition.specs.Cuts.{cheapest}
-use Rattle.multipartition.specs.Plans.{between}
-use Rattle.multipartition.specs.Jobs.{Passed, firstOutside, jobChecks, planWith, planAnswer}
+use Rattle.multipartition.specs.Plans.{Job, between}
+use Rattle.multipartition.specs.Jobs.{Passed, firstOutside, jobChecks, cheapestFor, planWith, planAnswer}
 use Rattle.multipartition.proofs.Answers.{FirstFails, checked-refused}
 use Rattle.multipartition.proofs.Jobs.{job-passes-iff, or-false}
 
@@ -45,33 +44,33 @@ lengths d extents weights e =
     let both = or-false (not (eqb (length extents) d)) (not (eqb (length weights) d)) e in
     (eqb-true (length extents) d (not-false (eqb (length extents) d) (both .0)), eqb-true (length weights) d (not-false (eqb (length weights) d) (both .1)))
 
-module _ (p d : ℕ) (extents weights : List ℕ) where
-  first-fails : (number place : ℕ) → FirstFails (jobChecks p d extents weights) number place → planAnswer p d extents weights ≡ refused number place
+module _ (job : Job) where
+  first-fails : (number place : ℕ) → FirstFails (jobChecks job) number place → planAnswer job ≡ refused number place
   unfolding planAnswer
-  first-fails = checked-refused (jobChecks p d extents weights) (planWith p extents weights (cheapest p extents weights))
+  first-fails = checked-refused (jobChecks job) (planWith job (cheapestFor job))
 
-  fails-1 : not (between 2 5 d) ≡ outsideRange 2 5 d
-  fails-1 = sym (outside-range 2 5 d)
+  fails-1 : not (between 2 5 (job .d)) ≡ outsideRange 2 5 (job .d)
+  fails-1 = sym (outside-range 2 5 (job .d))
 
-  fails-2 : not (between 1 4096 p) ≡ outsideRange 1 4096 p
-  fails-2 = sym (outside-range 1 4096 p)
+  fails-2 : not (between 1 4096 (job .p)) ≡ outsideRange 1 4096 (job .p)
+  fails-2 = sym (outside-range 1 4096 (job .p))
 
-  pub refused-1 : outsideRange 2 5 d ≡ true → planAnswer p d extents weights ≡ refused 1 0
+  pub refused-1 : outsideRange 2 5 (job .d) ≡ true → planAnswer job ≡ refused 1 0
   refused-1 e = first-fails 1 0 (inl (fails-1 ∙ e, refl, refl))
 
-  module _ (d-in : outsideRange 2 5 d ≡ false) where
-    pub refused-2 : outsideRange 1 4096 p ≡ true → planAnswer p d extents weights ≡ refused 2 0
+  module _ (d-in : outsideRange 2 5 (job .d) ≡ false) where
+    pub refused-2 : outsideRange 1 4096 (job .p) ≡ true → planAnswer job ≡ refused 2 0
     refused-2 e = first-fails 2 0 (inr (fails-1 ∙ d-in, inl (fails-2 ∙ e, refl, refl)))
 
-    module _ (p-in : outsideRange 1 4096 p ≡ false) where
-      pub refused-3 : otherLengths d extents weights ≡ true → planAnswer p d extents weights ≡ refused 3 0
+    module _ (p-in : outsideRange 1 4096 (job .p) ≡ false) where
+      pub refused-3 : otherLengths (job .d) (job .extents) (job .weights) ≡ true → planAnswer job ≡ refused 3 0
       refused-3 e = first-fails 3 0 (inr (fails-1 ∙ d-in, inr (fails-2 ∙ p-in, inl (e, refl, refl))))
 
-      module _ (many : otherLengths d extents weights ≡ false) where
-        pub refused-4 : (firstOutside 1 extents ≡ 0 → ⊥) → planAnswer p d extents weights ≡ refused 4 (firstOutside 1 extents)
+      module _ (many : otherLengths (job .d) (job .extents) (job .weights) ≡ false) where
+        pub refused-4 : (firstOutside 1 (job .extents) ≡ 0 → ⊥) → planAnswer job ≡ refused 4 (firstOutside 1 (job .extents))
         refused-4 e =
-            first-fails 4 (firstOutside 1 extents)
-            (inr (fails-1 ∙ d-in, inr (fails-2 ∙ p-in, inr (many, inl (ap not (ne-eqb (firstOutside 1 extents) 0 e), refl, refl)))))
+            first-fails 4 (firstOutside 1 (job .extents))
+            (inr (fails-1 ∙ d-in, inr (fails-2 ∙ p-in, inr (many, inl (ap not (ne-eqb (firstOutside 1 (job .extents)) 0 e), refl, refl)))))
 
-        pub passed : firstOutside 1 extents ≡ 0 → Passed p d extents weights
-        passed e = job-passes-iff p d extents weights .0 (fails-1 ∙ d-in, (fails-2 ∙ p-in, (many, (ap not (eq-eqb (firstOutside 1 extents) 0 e), tt))))
+        pub passed : firstOutside 1 (job .extents) ≡ 0 → Passed job
+        passed e = job-passes-iff job .0 (fails-1 ∙ d-in, (fails-2 ∙ p-in, (many, (ap not (eq-eqb (firstOutside 1 (job .extents)) 0 e), tt))))

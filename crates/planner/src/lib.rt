@@ -8,11 +8,11 @@ ghost use Prim.Native.Nat.{_≤_};
 ghost use lib.ListN.{length, take};
 ghost use Rattle.multipartition.specs.Answers.{refused as refusal};
 ghost use Rattle.multipartition.specs.Cuts.{costOf, cheapest};
-ghost use Rattle.multipartition.specs.Plans.{between, layoutWith};
+ghost use Rattle.multipartition.specs.Plans.{jobWith, layoutWith, between};
 ghost use Rattle.multipartition.specs.Jobs.{firstOutside, planWith, planAnswer};
 ghost use Rattle.layout.specs.Plans.{five, planOf};
 ghost use Rattle.planner.specs.Planned.{plannedOf};
-ghost use Rattle.cuts.specs.Found.{Job};
+ghost use Rattle.cuts.specs.Found.{Asked};
 
 // A plan, with number and place zero; or a refusal's number and place, with a plan of zeros.
 pub struct Planned {
@@ -71,7 +71,7 @@ fn first_outside(extents: &[u32]) -> u32
 fn plan_with(p: u32, extents: &[u32], weights: &[u32], cuts: [u32; 5], cost: u64) -> Plan
     requires { ⌜ (1 ≤ p) × (p ≤ 4096) × (length (now extents) ≤ 5) × (length (now weights) ≤ 5) ⌝ }
     requires { ⌜ (cuts ≡ five (take (length (now extents)) cuts)) × (cost ≡ costOf (now weights) (take (length (now extents)) cuts)) ⌝ }
-    ensures { λ r. ⌜ r ≡ planOf (layoutWith p (now (extents .entry)) (now (weights .entry)) (take (length (now (extents .entry))) cuts)) ⌝ }
+    ensures { λ r. ⌜ r ≡ planOf (layoutWith (jobWith p (length (now (extents .entry))) (now (extents .entry)) (now (weights .entry))) (take (length (now (extents .entry))) cuts)) ⌝ }
 {
     let d = extents.len();
     let kept_extents = padded(extents);
@@ -92,8 +92,8 @@ fn plan_with(p: u32, extents: &[u32], weights: &[u32], cuts: [u32; 5], cost: u64
 
 // The answer to a job that passes the lines 1 to 4 of the table.
 fn answer(p: u32, extents: &[u32], weights: &[u32]) -> Planned
-    requires { ⌜ Job p (now extents) (now weights) ⌝ }
-    ensures { λ r. ⌜ r ≡ plannedOf (planWith p (now (extents .entry)) (now (weights .entry)) (cheapest p (now (extents .entry)) (now (weights .entry)))) ⌝ }
+    requires { ⌜ Asked p (now extents) (now weights) ⌝ }
+    ensures { λ r. ⌜ r ≡ plannedOf (planWith (jobWith p (length (now (extents .entry))) (now (extents .entry)) (now (weights .entry))) (cheapest p (now (extents .entry)) (now (weights .entry)))) ⌝ }
 {
     let found = cheapest_cuts(p, extents, weights);
     if !found.ok {
@@ -109,7 +109,7 @@ fn answer(p: u32, extents: &[u32], weights: &[u32]) -> Planned
 
 // The planner's answer to a job.
 pub fn plan_job(p: u32, d: usize, extents: &[u32], weights: &[u32]) -> Planned
-    ensures { λ r. ⌜ r ≡ plannedOf (planAnswer p d (now (extents .entry)) (now (weights .entry))) ⌝ }
+    ensures { λ r. ⌜ r ≡ plannedOf (planAnswer (jobWith p d (now (extents .entry)) (now (weights .entry)))) ⌝ }
 {
     if (d < 2) | (5 < d) {
         return refused(1, 0);

@@ -10,13 +10,13 @@ use lib.ListN.{length, getD}
 use Rattle.numbers.specs.Products.{product}
 use Rattle.numbers.specs.Sums.{same}
 use Rattle.multipartition.specs.Answers.{Answer, answered}
-use Rattle.multipartition.specs.Cuts.{costOf, cheapest}
-use Rattle.multipartition.specs.Jobs.{PlanFor, Passed, planWith, planAnswer}
+use Rattle.multipartition.specs.Cuts.{costOf}
+use Rattle.multipartition.specs.Jobs.{PlanFor, Passed, cheapestFor, planWith, planAnswer}
 use Rattle.multipartition.specs.Matrix.{matrixOf}
 use Rattle.multipartition.specs.Moduli.{moduliOf}
 use Rattle.multipartition.specs.Neighbours.{neighbourAt}
 use Rattle.multipartition.specs.Owners.{ownerAt, ownerOf}
-use Rattle.multipartition.specs.Plans.{Layout, layoutWith, inShape}
+use Rattle.multipartition.specs.Plans.{Job, Layout, jobOf, layoutWith, inShape}
 use Rattle.multipartition.specs.Questions.{ownerAnswer, neighbourAnswer}
 use Rattle.multipartition.specs.Rivals.{held, Balanced}
 use Rattle.multipartition.specs.Tiles.{Inside, oneStepOn}
@@ -47,20 +47,20 @@ held-ext cuts own own′ k s q agree =
     ∙ total-ext cuts (λ x w. ap (λ (n : ℕ). same (getD x k 0) s * same n q) (agree x w))
     ∙ sym (held-total cuts own′ k s q)
 
-module _ (p d : ℕ) (extents weights : List ℕ) (plan : Plan) (e : planAnswer p d extents weights ≡ answered (layoutOf plan)) where
-  made : PlanFor p d extents weights (layoutOf plan)
-  made = plan-answered p d extents weights (layoutOf plan) e
+module _ (job : Job) (plan : Plan) (e : planAnswer job ≡ answered (layoutOf plan)) where
+  made : PlanFor job (layoutOf plan)
+  made = plan-answered job (layoutOf plan) e
 
-  some-processor : zero < p
+  some-processor : zero < job .p
   some-processor = made .passed .range .p-low
 
   shaped : inShape (layoutOf plan) ≡ true
-  shaped = plan-in-shape p d extents weights (layoutOf plan) e
+  shaped = plan-in-shape job (layoutOf plan) e
 
-  moduli-are : layoutOf plan .moduli ≡ moduliOf p (cutsOf plan)
+  moduli-are : layoutOf plan .moduli ≡ moduliOf (job .p) (cutsOf plan)
   moduli-are = ap (λ (l : Layout). l .moduli) (made .plan-is)
 
-  matrix-is : layoutOf plan .matrix ≡ matrixOf p (cutsOf plan)
+  matrix-is : layoutOf plan .matrix ≡ matrixOf (job .p) (cutsOf plan)
   matrix-is = ap (λ (l : Layout). l .matrix) (made .plan-is)
 
   owner-answers : (x : List ℕ) → Inside (cutsOf plan) x → ownerAnswer (layoutOf plan) x ≡ answered (ownerAt (layoutOf plan .moduli) (layoutOf plan .matrix) x)
@@ -71,28 +71,31 @@ module _ (p d : ℕ) (extents weights : List ℕ) (plan : Plan) (e : planAnswer 
   unfolding ownerIn
   owner-at x w = ap processorIn (owner-answers x w)
 
-  owner-of : (x : List ℕ) → Inside (cutsOf plan) x → ownerIn plan x ≡ ownerOf p (cutsOf plan) x
+  owner-of : (x : List ℕ) → Inside (cutsOf plan) x → ownerIn plan x ≡ ownerOf (job .p) (cutsOf plan) x
   unfolding ownerOf
   owner-of x w = owner-at x w ∙ ap₂ (λ (ms : List ℕ) (rows : List (List ℕ)). ownerAt ms rows x) moduli-are matrix-is
 
-  shares-are : (k s q : ℕ) → k < length (cutsOf plan) → s < getD (cutsOf plan) k 0 → q < p
-      → held (cutsOf plan) (ownerIn plan) k s q ≡ product (cutsOf plan) / (getD (cutsOf plan) k 0 * p)
+  shares-are : (k s q : ℕ) → k < length (cutsOf plan) → s < getD (cutsOf plan) k 0 → q < job .p
+      → held (cutsOf plan) (ownerIn plan) k s q ≡ product (cutsOf plan) / (getD (cutsOf plan) k 0 * job .p)
   shares-are k s q l m o =
-      held-ext (cutsOf plan) (ownerIn plan) (ownerOf p (cutsOf plan)) k s q owner-of
-      ∙ even-owners p (cutsOf plan) some-processor (cheapest-even p extents weights (cutsOf plan) (made .cuts-are)) k s q l m o
+      held-ext (cutsOf plan) (ownerIn plan) (ownerOf (job .p) (cutsOf plan)) k s q owner-of
+      ∙ even-owners (job .p) (cutsOf plan) some-processor (cheapest-even (job .p) (job .extents) (job .weights) (cutsOf plan) (made .cuts-are)) k s q l m o
 
-  cost-is : plan .cost ≡ costOf weights (cutsOf plan)
+  cost-is : plan .cost ≡ costOf (job .weights) (cutsOf plan)
   unfolding layoutOf
   cost-is = ap (λ (l : Layout). l .cost) (made .plan-is)
 
   d-is : plan .d ≡ length (cutsOf plan)
   unfolding layoutOf
-  d-is = ap (λ (l : Layout). l .d) (made .plan-is) ∙ sym (fits-length extents (cutsOf plan) (cheapest-fits p extents weights (cutsOf plan) (made .cuts-are)))
+  d-is =
+      ap (λ (l : Layout). l .d) (made .plan-is)
+      ∙ sym (made .passed .extents-many)
+      ∙ sym (fits-length (job .extents) (cutsOf plan) (cheapest-fits (job .p) (job .extents) (job .weights) (cutsOf plan) (made .cuts-are)))
 
-  p-is : layoutOf plan .p ≡ p
+  p-is : layoutOf plan .p ≡ job .p
   p-is = ap (λ (l : Layout). l .p) (made .plan-is)
 
-  balanced-is : Balanced p (cutsOf plan) (ownerIn plan)
+  balanced-is : Balanced (job .p) (cutsOf plan) (ownerIn plan)
   unfolding Balanced
   balanced-is k s l m q r o o′ = shares-are k s q l m o ∙ sym (shares-are k s r l m o′)
 
@@ -109,7 +112,7 @@ module _ (p d : ℕ) (extents weights : List ℕ) (plan : Plan) (e : planAnswer 
   unfolding layoutOf
   neighbour-is k up x y low high w step =
       let q-below : ownerIn plan x < layoutOf plan .p =
-      subst⁻¹ (λ (n : ℕ). ownerIn plan x < n) p-is (subst⁻¹ (λ (n : ℕ). n < p) (owner-of x w) (owner-below p (cutsOf plan) x some-processor)) in
+      subst⁻¹ (λ (n : ℕ). ownerIn plan x < n) p-is (subst⁻¹ (λ (n : ℕ). n < job .p) (owner-of x w) (owner-below (job .p) (cutsOf plan) x some-processor)) in
       neighbour-answered (layoutOf plan) (ownerIn plan x) k up (some (ownerIn plan y)) .1
       (shaped, between-true-iff 1 (plan .d) k .1 (low, high), q-below, neighbour-at (k - 1) up x y (omega (arith, d-is)) w step)
 
@@ -121,57 +124,54 @@ module _ (p d : ℕ) (extents weights : List ℕ) (plan : Plan) (e : planAnswer 
       let named′ = neighbour-is k up x′ y′ low high w′ step′ in
       cc
 
-  ours : Ours p d extents weights plan
+  ours : Ours job plan
   unfolding layoutOf
   ours = record {
-    holds-p = p-is;
-    holds-d = ap (λ (l : Layout). l .d) (made .plan-is) ∙ made .passed .extents-many;
-    holds-extents = ap (λ (l : Layout). l .extents) (made .plan-is);
-    holds-weights = ap (λ (l : Layout). l .weights) (made .plan-is);
+    holds-job = ap jobOf (made .plan-is);
     in-shape = shaped;
-    fits = cheapest-fits p extents weights (cutsOf plan) (made .cuts-are);
+    fits = cheapest-fits (job .p) (job .extents) (job .weights) (cutsOf plan) (made .cuts-are);
     owner-answered = λ x w. owner-answers x w ∙ ap answered (sym (owner-at x w));
-    owner-below = λ x w. subst⁻¹ (λ (n : ℕ). n < p) (owner-of x w) (owner-below p (cutsOf plan) x some-processor);
+    owner-below = λ x w. subst⁻¹ (λ (n : ℕ). n < job .p) (owner-of x w) (owner-below (job .p) (cutsOf plan) x some-processor);
     balanced = balanced-is;
     shares = shares-are;
-    share-exact = share-exact p (cutsOf plan) (cheapest-even p extents weights (cutsOf plan) (made .cuts-are));
+    share-exact = share-exact (job .p) (cutsOf plan) (cheapest-even (job .p) (job .extents) (job .weights) (cutsOf plan) (made .cuts-are));
     cost-summed = cost-is;
     cheapest-of-all = λ rival balanced.
-        subst⁻¹ (λ (n : ℕ). n ≤ costOf weights (rival .cuts)) cost-is (cheapest-no-dearer p extents some-processor weights (cutsOf plan) (made .cuts-are) rival balanced);
+        subst⁻¹ (λ (n : ℕ). n ≤ costOf (job .weights) (rival .cuts)) cost-is (cheapest-no-dearer (job .p) (job .extents) some-processor (job .weights) (cutsOf plan) (made .cuts-are) rival balanced);
     faces-differ = λ x y w v face same-owner.
-        faces-differ p (cutsOf plan) some-processor (cheapest-minimal p extents weights (cutsOf plan) (made .cuts-are)) x y w v face
+        faces-differ (job .p) (cutsOf plan) some-processor (cheapest-minimal (job .p) (job .extents) (job .weights) (cutsOf plan) (made .cuts-are)) x y w v face
         (sym (owner-of x w) ∙ same-owner ∙ owner-of y v);
     one-neighbour = neighbour-is;
     one-owner = one-owner-is;
   }
 
 -- DEMAND 3, for all jobs in the stated ranges and all rivals.
-pub demand-3 : (p d : ℕ) (extents weights : List ℕ) → Passed p d extents weights → Demand3 p d extents weights (plannedOf (planAnswer p d extents weights))
+pub demand-3 : (job : Job) → Passed job → Demand3 job (plannedOf (planAnswer job))
 unfolding plannedOf planWith
-demand-3 p d extents weights job = go (cheapest p extents weights) refl
+demand-3 job passed = go (cheapestFor job) refl
   where
-    go : (chosen : Option (List ℕ)) → cheapest p extents weights ≡ chosen → Demand3 p d extents weights (plannedOf (planAnswer p d extents weights))
+    go : (chosen : Option (List ℕ)) → cheapestFor job ≡ chosen → Demand3 job (plannedOf (planAnswer job))
     go none e =
-        subst⁻¹ (λ (a : Answer Layout). Demand3 p d extents weights (plannedOf a))
-        (plan-of-passed p d extents weights job ∙ ap (planWith p extents weights) e)
+        subst⁻¹ (λ (a : Answer Layout). Demand3 job (plannedOf a))
+        (plan-of-passed job passed ∙ ap (planWith job) e)
         (record {
           accepts = (
             (λ (z : _≡_ {A = ℕ} 5 0). absurd (omega arith)),
-            λ rival. absurd (Option·none-ne-some _ (sym e ∙ balanced-iff-cheapest p extents (job .range .p-low) weights .0 rival .1)),
+            λ rival. absurd (Option·none-ne-some _ (sym e ∙ balanced-iff-cheapest (job .p) (job .extents) (passed .range .p-low) (job .weights) .0 rival .1)),
           );
           refuses = inr refl;
           ours = λ (z : _≡_ {A = ℕ} 5 0). absurd (omega arith);
         })
     go (some cuts) e =
-        let answers : planAnswer p d extents weights ≡ answered (layoutWith p extents weights cuts) =
-        plan-of-passed p d extents weights job ∙ ap (planWith p extents weights) e in
-        let many : length cuts ≡ length extents = fits-length extents cuts (cheapest-fits p extents weights cuts e) in
-        let back : layoutOf (planOf (layoutWith p extents weights cuts)) ≡ layoutWith p extents weights cuts =
-        layout-of-plan (layoutWith p extents weights cuts)
-        (layout-with-sized p extents weights cuts (job .range .d-high) (job .weights-many ∙ sym (job .extents-many)) many) in
-        subst⁻¹ (λ (a : Answer Layout). Demand3 p d extents weights (plannedOf a)) answers
+        let answers : planAnswer job ≡ answered (layoutWith job cuts) =
+        plan-of-passed job passed ∙ ap (planWith job) e in
+        let many : length cuts ≡ job .d = fits-length (job .extents) cuts (cheapest-fits (job .p) (job .extents) (job .weights) cuts e) ∙ passed .extents-many in
+        let back : layoutOf (planOf (layoutWith job cuts)) ≡ layoutWith job cuts =
+        layout-of-plan (layoutWith job cuts)
+        (layout-with-sized job cuts (omega (arith, passed .range .d-high, passed .extents-many)) (passed .extents-many) (passed .weights-many) many) in
+        subst⁻¹ (λ (a : Answer Layout). Demand3 job (plannedOf a)) answers
         (record {
-          accepts = ((λ z. balanced-iff-cheapest p extents (job .range .p-low) weights .1 (cuts, e)), λ rival. refl);
+          accepts = ((λ z. balanced-iff-cheapest (job .p) (job .extents) (passed .range .p-low) (job .weights) .1 (cuts, e)), λ rival. refl);
           refuses = inl refl;
-          ours = λ z. ours p d extents weights (planOf (layoutWith p extents weights cuts)) (answers ∙ ap answered (sym back));
+          ours = λ z. ours job (planOf (layoutWith job cuts)) (answers ∙ ap answered (sym back));
         })

@@ -10,7 +10,7 @@ use lib.ListN.{length, getD}
 use Rattle.numbers.specs.Products.{product}
 use Rattle.multipartition.specs.Answers.{Answer, answered, refused}
 use Rattle.multipartition.specs.Cuts.{Fits, costOf}
-use Rattle.multipartition.specs.Plans.{inShape}
+use Rattle.multipartition.specs.Plans.{Job, jobOf, inShape}
 use Rattle.multipartition.specs.Questions.{ownerAnswer, neighbourAnswer}
 use Rattle.multipartition.specs.Rivals.{Rival, held, Balanced, Face}
 use Rattle.multipartition.specs.Tiles.{Inside, oneStepOn}
@@ -32,27 +32,24 @@ unfoldable pub ownerIn : Plan → List ℕ → ℕ
 ownerIn plan position = processorIn (ownerAnswer (layoutOf plan) position)
 
 -- What holds of a plan that the planner answers.
-pub record Ours (p d : ℕ) (extents weights : List ℕ) (plan : Plan) : Type 0 where
+pub record Ours (job : Job) (plan : Plan) : Type 0 where
   -- it is the job's: "A plan holds d, p, extents, weights"
-  pub holds-p : plan .p ≡ p
-  pub holds-d : plan .d ≡ d
-  pub holds-extents : layoutOf plan .extents ≡ extents
-  pub holds-weights : layoutOf plan .weights ≡ weights
+  pub holds-job : jobOf (layoutOf plan) ≡ job
   -- no question about it is refused with 6
   pub in-shape : inShape (layoutOf plan) ≡ true
-  pub fits : Fits extents (cutsOf plan)
+  pub fits : Fits (job .extents) (cutsOf plan)
   -- the owner question names a processor for every tile
   pub owner-answered : (x : List ℕ) → Inside (cutsOf plan) x → ownerAnswer (layoutOf plan) x ≡ answered (ownerIn plan x)
-  pub owner-below : (x : List ℕ) → Inside (cutsOf plan) x → ownerIn plan x < p
+  pub owner-below : (x : List ℕ) → Inside (cutsOf plan) x → ownerIn plan x < job .p
   -- it "gives every processor equally many tiles in every slab": "every processor owns exactly tiles / (bk · p) tiles of each slab of dimension k"
-  pub balanced : Balanced p (cutsOf plan) (ownerIn plan)
-  pub shares : (k s q : ℕ) → k < length (cutsOf plan) → s < getD (cutsOf plan) k 0 → q < p
-      → held (cutsOf plan) (ownerIn plan) k s q ≡ product (cutsOf plan) / (getD (cutsOf plan) k 0 * p)
+  pub balanced : Balanced (job .p) (cutsOf plan) (ownerIn plan)
+  pub shares : (k s q : ℕ) → k < length (cutsOf plan) → s < getD (cutsOf plan) k 0 → q < job .p
+      → held (cutsOf plan) (ownerIn plan) k s q ≡ product (cutsOf plan) / (getD (cutsOf plan) k 0 * job .p)
   -- that share is exact, not rounded
-  pub share-exact : (k : ℕ) → k < length (cutsOf plan) → getD (cutsOf plan) k 0 * p ∣ product (cutsOf plan)
+  pub share-exact : (k : ℕ) → k < length (cutsOf plan) → getD (cutsOf plan) k 0 * job .p ∣ product (cutsOf plan)
   -- "its cost is the one in the plan, summed from the plan's cuts", and no balanced rival costs less
-  pub cost-summed : plan .cost ≡ costOf weights (cutsOf plan)
-  pub cheapest-of-all : (rival : Rival p extents) → Balanced p (rival .cuts) (rival .owner) → plan .cost ≤ costOf weights (rival .cuts)
+  pub cost-summed : plan .cost ≡ costOf (job .weights) (cutsOf plan)
+  pub cheapest-of-all : (rival : Rival job) → Balanced (job .p) (rival .cuts) (rival .owner) → plan .cost ≤ costOf (job .weights) (rival .cuts)
   -- tiles with a common face have different owners
   pub faces-differ : (x y : List ℕ) → Inside (cutsOf plan) x → Inside (cutsOf plan) y → Face x y → ownerIn plan x ≢ ownerIn plan y
   -- "Where the tile one step up or down along k from a tile of processor q is inside the grid, its owner is the neighbour question's answer for
@@ -65,10 +62,10 @@ pub record Ours (p d : ℕ) (extents weights : List ℕ) (plan : Plan) : Type 0 
       → ownerIn plan y ≡ ownerIn plan y′
 
 -- Demand 3 for a job that planner::plan_job answers with `planned`.
-pub record Demand3 (p d : ℕ) (extents weights : List ℕ) (planned : Planned) : Type 0 where
+pub record Demand3 (job : Job) (planned : Planned) : Type 0 where
   -- "ours accepts exactly when some rival gives every processor equally many tiles in every slab"
-  pub accepts : (planned .number ≡ 0) ↔ ((rival : Rival p extents) × Balanced p (rival .cuts) (rival .owner))
+  pub accepts : (planned .number ≡ 0) ↔ ((rival : Rival job) × Balanced (job .p) (rival .cuts) (rival .owner))
   -- and else refuses with 5
   pub refuses : (planned .number ≡ 0) ⊎ (planned .number ≡ 5)
   -- "ours then does too, and costs no more"; faces and neighbours
-  pub ours : planned .number ≡ 0 → Ours p d extents weights (planned .plan)
+  pub ours : planned .number ≡ 0 → Ours job (planned .plan)

@@ -7,7 +7,7 @@ use lib.Dec.{lit≤}
 use lib.ListN.{length}
 use Rattle.multipartition.specs.Answers.{Answer, answered, refused}
 use Rattle.multipartition.specs.Jobs.{planAnswer}
-use Rattle.multipartition.specs.Plans.{Layout}
+use Rattle.multipartition.specs.Plans.{Layout, jobWith}
 use Rattle.layout.specs.declared.Plan.{Plan}
 use Rattle.layout.specs.Plans.{planOf, layoutOf, noPlan}
 use Rattle.layout.proofs.Plans.{layout-of-plan}
@@ -46,20 +46,20 @@ planned-d-le planned (refused number place) e few = subst⁻¹ (λ (q : Planned)
 
 module _ (p d : ℕ) (extents weights : List ℕ) where
   -- the list of a planned job is read as the plan that was planned
-  pub layout-of-planned-list : (layout : Layout) → planAnswer p d extents weights ≡ answered layout
+  pub layout-of-planned-list : (layout : Layout) → planAnswer (jobWith p d extents weights) ≡ answered layout
       → layoutOf (planIn (listOfPlan (planOf layout))) ≡ layout
-  layout-of-planned-list layout a = ap layoutOf (plan-in-list (planOf layout) (arrays-of-layout layout)) ∙ layout-of-plan layout (plan-sized p d extents weights layout a)
+  layout-of-planned-list layout a = ap layoutOf (plan-in-list (planOf layout) (arrays-of-layout layout)) ∙ layout-of-plan layout (plan-sized (jobWith p d extents weights) layout a)
 
-  module _ (planned : Planned) (e : planned ≡ plannedOf (planAnswer p d extents weights)) where
+  module _ (planned : Planned) (e : planned ≡ plannedOf (planAnswer (jobWith p d extents weights))) where
     pub planned-few : planned .plan .d ≤ 5
-    planned-few = planned-d-le planned (planAnswer p d extents weights) e (λ layout a. plan-sized p d extents weights layout a .few)
+    planned-few = planned-d-le planned (planAnswer (jobWith p d extents weights)) e (λ layout a. plan-sized (jobWith p d extents weights) layout a .few)
 
     pub linked-plan-refused : (lent : List ℕ) → (planned .number ≡ 0 → ⊥) → (code : ℕ) → code ≡ planned .number + 4294967296 * planned .place
         → Linked (planLink p d extents weights (length lent)) lent code lent
     unfolding planLink
-    linked-plan-refused lent h code sum = linked-number planned lent (planAnswer p d extents weights) e h code sum
+    linked-plan-refused lent h code sum = linked-number planned lent (planAnswer (jobWith p d extents weights)) e h code sum
 
     pub linked-plan : (lent : List ℕ) → planned .number ≡ 0 → (code : ℕ) (after : List ℕ)
         → Linked (into (length lent) (listOfPlan (planned .plan))) lent code after → Linked (planLink p d extents weights (length lent)) lent code after
     unfolding planLink
-    linked-plan lent h code after l = linked-list planned lent (planAnswer p d extents weights) (numbered-plan p d extents weights) e h code after l
+    linked-plan lent h code after l = linked-list planned lent (planAnswer (jobWith p d extents weights)) (numbered-plan (jobWith p d extents weights)) e h code after l

@@ -7,6 +7,7 @@ use Prim.Native.Nat.{ℕ, _+_, _*_, _/_, _%_}
 use lib.Dec.{eqb}
 use lib.ListN.{length, getD, take, drop, replicate}
 use Rattle.multipartition.specs.Answers.{Answer, answered, refused, Check, checked}
+use Rattle.multipartition.specs.Plans.{jobWith}
 use Rattle.multipartition.specs.Jobs.{planAnswer}
 use Rattle.multipartition.specs.Questions.{lengthCheck, ownerAnswer, neighbourAnswer, slabAnswer, slabOfAnswer, numberAnswer, positionAnswer, stepAnswer, chainsAnswer}
 use Rattle.layout.specs.declared.Plan.{Plan}
@@ -70,7 +71,7 @@ pub record Linked {A : Type 0} (answer : Answer A) (lent : A) (code : ℕ) (afte
 
 -- planning: the plan list
 unfoldable pub planLink : ℕ → ℕ → List ℕ → List ℕ → ℕ → Answer (List ℕ)
-planLink p d extents weights places = andThen (planAnswer p d extents weights) (λ layout. into places (listOfPlan (planOf layout)))
+planLink p d extents weights places = andThen (planAnswer (jobWith p d extents weights)) (λ layout. into places (listOfPlan (planOf layout)))
 
 -- the owner of a position: the processor
 unfoldable pub ownerLink : List ℕ → List ℕ → ℕ → Answer (List ℕ)

@@ -6,6 +6,7 @@ use lib.ListN.{length, take, drop, length-drop}
 use lib.Seq.{length-take-le, take-all}
 use denote.Ref.{now}
 use borrow.Author.Needs.{needs}
+use Rattle.multipartition.specs.Plans.{jobWith}
 use Rattle.multipartition.specs.Jobs.{planAnswer}
 use Rattle.planner.specs.declared.Planned.{Planned}
 use Rattle.planner.specs.Planned.{plannedOf}
@@ -46,7 +47,7 @@ returns c =
     let least = parts .lesser .ensures in
     let behind = length-drop m numbers in
     c .plan-job .ensures
-    ∙ ap₂ {C = Planned} (λ extents weights. plannedOf (planAnswer (a .p) (a .d) extents weights))
+    ∙ ap₂ {C = Planned} (λ extents weights. plannedOf (planAnswer (jobWith (a .p) (a .d) extents weights)))
     (ap (λ (n : ℕ). take n numbers) least ∙ take-lesser (a .d) numbers)
     (take-all (length numbers - m) (drop m numbers) (omega arith) ∙ ap (λ (n : ℕ). drop n numbers) least ∙ drop-lesser (a .d) numbers)
 

@@ -3,6 +3,9 @@ use mathlib.Core.Path.{sym, ap, _∙_}
 use Prim.Native.Nat.{ℕ}
 use native.Mathlib.Omega.{arith}
 use Rattle.multipartition.specs.Answers.{refused as refusal}
+use Rattle.multipartition.specs.Cuts.{cheapest}
+use Rattle.multipartition.specs.Plans.{jobWith}
+use Rattle.multipartition.specs.Jobs.{planWith}
 use Rattle.multipartition.proofs.Jobs.{plan-of-passed}
 use Rattle.planner.specs.Planned.{plannedOf}
 use Rattle.planner.proofs.Refusals.{within, lengths, refused-1, refused-2, refused-3, refused-4, passed}
@@ -16,7 +19,7 @@ refused-requires c κs = search needs
 returns : tie.Need-returns
 returns c =
     let start = c .before .before .before .before in
-    c .refused .ensures ∙ sym (ap plannedOf (refused-1 (start .args .p) (start .args .d) (start .args .extents .now) (start .args .weights .now) (c .before .if1 .taken)))
+    c .refused .ensures ∙ sym (ap plannedOf (refused-1 (jobWith (start .args .p) (start .args .d) (start .args .extents .now) (start .args .weights .now)) (c .before .if1 .taken)))
 
 refused-requires-2 : tie.Need-refused-requires-2
 refused-requires-2 c κs = search needs
@@ -25,7 +28,7 @@ returns-2 : tie.Need-returns-2
 returns-2 c =
     let start = c .before .before .before .before .before in
     c .refused2 .ensures
-    ∙ sym (ap plannedOf (refused-2 (start .args .p) (start .args .d) (start .args .extents .now) (start .args .weights .now) (c .before .before .if1 .left) (c .before .if2 .taken)))
+    ∙ sym (ap plannedOf (refused-2 (jobWith (start .args .p) (start .args .d) (start .args .extents .now) (start .args .weights .now)) (c .before .before .if1 .left) (c .before .if2 .taken)))
 
 refused-requires-3 : tie.Need-refused-requires-3
 refused-requires-3 c κs = search needs
@@ -35,7 +38,7 @@ returns-3 c =
     let start = c .before .before .before .before .before .before in
     c .refused3 .ensures
     ∙ sym (ap plannedOf
-    (refused-3 (start .args .p) (start .args .d) (start .args .extents .now) (start .args .weights .now) (c .before .before .before .if1 .left) (c .before .before .if2 .left) (c .before .if3 .taken)))
+    (refused-3 (jobWith (start .args .p) (start .args .d) (start .args .extents .now) (start .args .weights .now)) (c .before .before .before .if1 .left) (c .before .before .if2 .left) (c .before .if3 .taken)))
 
 first-outside-requires : tie.Need-first-outside-requires
 first-outside-requires c κs =
@@ -52,14 +55,14 @@ returns-4 c =
     c .refused4 .ensures
     ∙ ap (λ (n : ℕ). plannedOf (refusal 4 n)) found
     ∙ sym (ap plannedOf
-    (refused-4 (start .args .p) (start .args .d) (start .args .extents .now) (start .args .weights .now) (c .before .before .before .before .before .if1 .left)
+    (refused-4 (jobWith (start .args .p) (start .args .d) (start .args .extents .now) (start .args .weights .now)) (c .before .before .before .before .before .if1 .left)
     (c .before .before .before .before .if2 .left) (c .before .before .before .if3 .left) (λ e. c .before .if4 .taken (found ∙ e))))
 
 answer-requires : tie.Need-answer-requires
 answer-requires c κs =
     let start = c .before .before .before .before .before .before .before in
     let job =
-    passed (start .args .p) (start .args .d) (start .args .extents .now) (start .args .weights .now) (c .before .before .before .before .if1 .left)
+    passed (jobWith (start .args .p) (start .args .d) (start .args .extents .now) (start .args .weights .now)) (c .before .before .before .before .if1 .left)
     (c .before .before .before .if2 .left) (c .before .before .if3 .left) (sym (c .before .first-outside .ensures) ∙ c .if4 .left) in
     let range = job .range in
     record { p-low = range .p-low; p-high = range .p-high; d-low = range .d-low; d-high = range .d-high; weights-too = job .weights-many ∙ sym (job .extents-many) }
@@ -68,9 +71,12 @@ returns-5 : tie.Need-returns-5
 returns-5 c =
     let start = c .before .before .before .before .before .before .before .before in
     let job =
-    passed (start .args .p) (start .args .d) (start .args .extents .now) (start .args .weights .now) (c .before .before .before .before .before .if1 .left)
+    passed (jobWith (start .args .p) (start .args .d) (start .args .extents .now) (start .args .weights .now)) (c .before .before .before .before .before .if1 .left)
     (c .before .before .before .before .if2 .left) (c .before .before .before .if3 .left) (sym (c .before .before .first-outside .ensures) ∙ c .before .if4 .left) in
-    c .answer .ensures ∙ sym (ap plannedOf (plan-of-passed (start .args .p) (start .args .d) (start .args .extents .now) (start .args .weights .now) job))
+    c .answer .ensures
+    ∙ ap (λ (n : ℕ). plannedOf (planWith (jobWith (start .args .p) n (start .args .extents .now) (start .args .weights .now)) (cheapest (start .args .p) (start .args .extents .now) (start .args .weights .now))))
+    (job .extents-many)
+    ∙ sym (ap plannedOf (plan-of-passed (jobWith (start .args .p) (start .args .d) (start .args .extents .now) (start .args .weights .now)) job))
 
 pub plan-job-spec : {M : Type 1} → statement M
 plan-job-spec =
