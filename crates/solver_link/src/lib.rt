@@ -166,8 +166,11 @@ pub extern "C" fn multipartition_step(
     if plan.len() != lists::PLAN_LENGTH {
         return 6;
     }
-    let from = lists::position_in(position);
-    let moved = from.step(lists::plan_in(plan), dimension as usize, up != 0);
+    let moved = lists::position_in(position).step(
+        lists::plan_in(plan),
+        dimension as usize,
+        up != 0,
+    );
     let step = moved.step;
     let next = moved.position;
     let edge = Position {
