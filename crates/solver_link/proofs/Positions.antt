@@ -7,7 +7,7 @@ use mathlib.Core.Option.{Option, some}
 use Prim.Native.Nat.{ℕ, zero, suc, _-_, _≤_}
 use native.Mathlib.Decide.{decLe}
 use native.Mathlib.Omega.{arith}
-use lib.ListN.{length, getD, take, replicate}
+use lib.ListN.{length, take, replicate}
 use lib.Seq.{take-append-le}
 use Rattle.multipartition.specs.Answers.{Answer, answered}
 use Rattle.multipartition.specs.Plans.{inShape, between, tilesOf}
@@ -17,7 +17,7 @@ use Rattle.multipartition.proofs.Answers.{answered-iff, answered-injective}
 use Rattle.multipartition.proofs.MixedRadix.{length-digits}
 use Rattle.multipartition.proofs.Tiles.{inside-of-test, inside-length, one-step-on-inside}
 use Rattle.layout.specs.declared.Plan.{Plan}
-use Rattle.layout.specs.Plans.{layoutOf, five}
+use Rattle.layout.specs.Plans.{layoutOf}
 use Rattle.layout.proofs.Places.{cuts-length}
 use Rattle.layout.specs.Shaped.{Shaped}
 use Rattle.layout.proofs.Positions.{outside-by-length, in-grid}
@@ -28,15 +28,6 @@ use Rattle.tiles.specs.declared.positions.Moved.{Moved}
 use Rattle.tiles.specs.Answers.{toldStep, Moves}
 use Rattle.tiles.specs.Positions.{coordinates, positionWith}
 use Rattle.tiles.proofs.Coordinates.{length-coordinates, coordinates-with}
-
--- five numbers of a list, zero past its end
-pub five-numbers : (xs : List ℕ) → getD xs 0 0 ∷ getD xs 1 0 ∷ getD xs 2 0 ∷ getD xs 3 0 ∷ getD xs 4 0 ∷ [] ≡ five xs
-five-numbers [] = refl
-five-numbers (a ∷ []) = refl
-five-numbers (a ∷ b ∷ []) = refl
-five-numbers (a ∷ b ∷ c ∷ []) = refl
-five-numbers (a ∷ b ∷ c ∷ d ∷ []) = refl
-five-numbers (a ∷ b ∷ c ∷ d ∷ e ∷ more) = refl
 
 -- the coordinates of a position by value
 pub coordinates-front : (position : Position) → position .d ≤ length (position .at) → coordinates position ≡ take (position .d) (position .at)

@@ -2,11 +2,9 @@
 use mathlib.Core.Path.{_≡_, refl, sym, ap, _∙_}
 use mathlib.Core.Bool.{Bool, true, false, _&&_}
 use mathlib.Core.List.{List, [], _∷_, _++_}
-use mathlib.Core.Logic.{⊎-elim}
-use Prim.Native.Nat.{ℕ, zero, suc, _+_, _/_, _<_, _≤_}
-use native.Mathlib.Nat.{eq-or-lt-of-le, mul-div-right}
-use native.Mathlib.Decide.{decLt}
-use native.Mathlib.Numerals.{add-one}
+use mathlib.Core.Logic.{_⊎_, inl, inr}
+use Prim.Native.Nat.{ℕ, zero, suc, _*_, _/_, _<_, _≤_}
+use native.Mathlib.Nat.{eq-or-lt-of-le, div-div-eq-div-mul}
 use native.Mathlib.Omega.{arith}
 use lib.Arith.{digits-lt}
 use lib.Dec.{ltb, eqb}
@@ -60,9 +58,14 @@ unfolding coordinates
 coordinates-with xs few =
     take-append-le (length xs) (five xs) (replicate (length xs) 0) (omega (arith, length-five xs)) ∙ take-five (length xs) xs few refl
 
-pub five-set : (xs : List ℕ) (k x : ℕ) → length xs ≤ 5 → k < length xs → set (five xs) k x ≡ five (set xs k x)
-five-set xs k x few l =
-    sym (take-set-lt 5 (xs ++ replicate 5 0) k x (omega arith)) ∙ ap (take 5) (set-append-left xs (replicate 5 0) k x l)
+-- five numbers of a list, zero past its end
+pub five-numbers : (xs : List ℕ) → getD xs 0 0 ∷ getD xs 1 0 ∷ getD xs 2 0 ∷ getD xs 3 0 ∷ getD xs 4 0 ∷ [] ≡ five xs
+five-numbers [] = refl
+five-numbers (a ∷ []) = refl
+five-numbers (a ∷ b ∷ []) = refl
+five-numbers (a ∷ b ∷ c ∷ []) = refl
+five-numbers (a ∷ b ∷ c ∷ d ∷ []) = refl
+five-numbers (a ∷ b ∷ c ∷ d ∷ e ∷ more) = refl
 
 -- ---- positions of the grid
 
@@ -88,37 +91,31 @@ inside-by-places plan s position =
         all-ext (plan .d) _ _
         (λ k l. ap (λ (i : ℕ). ltb i (getD (plan .cuts) k 0)) (coordinate-at position k (omega (arith, eqb-true (position .d) (plan .d) e))))
 
--- ---- five places, filled from the front
+-- ---- five places, filled from the last number of a list to the first
 
--- the first k places hold the first k numbers of a list, the others zero
-pub record Filled (xs : List ℕ) (k : ℕ) (at : List ℕ) : Type 0 where
+-- from place k on they hold the numbers of the list, zero past its end
+pub record Ends (xs : List ℕ) (k : ℕ) (at : List ℕ) : Type 0 where
   pub long : length at ≡ 5
-  pub front : (i : ℕ) → i < k → getD at i 0 ≡ getD xs i 0
-  pub behind : (i : ℕ) → k ≤ i → getD at i 0 ≡ 0
+  pub end : (i : ℕ) → k ≤ i → getD at i 0 ≡ getD xs i 0
 
-pub filled-none : (xs : List ℕ) → Filled xs 0 (replicate 5 0)
-filled-none xs = record { long = refl; front = λ i l. absurd (omega arith); behind = λ i l. zeros-at 5 i }
+pub ends-none : (xs : List ℕ) → Ends xs (length xs) (replicate 5 0)
+ends-none xs = record { long = refl; end = λ i l. zeros-at 5 i ∙ sym (List·getD-eq-default xs 0 l) }
 
-pub filled-more : (xs : List ℕ) (k : ℕ) (at : List ℕ) → k < 5 → Filled xs k at → Filled xs (k + 1) (set at k (getD xs k 0))
-filled-more xs k at l f =
+pub ends-more : (xs : List ℕ) (k : ℕ) (at : List ℕ) → k < 5 → Ends xs (suc k) at → Ends xs k (set at k (getD xs k 0))
+ends-more xs k at l e =
     record {
-      long = length-set at k (getD xs k 0) ∙ f .long;
-      front = λ i m.
-          let upto : i ≤ k = omega arith in
-          ⊎-elim
-          (λ same. rw same (getD-set-same at k (getD xs k 0) 0 (omega (arith, f .long))))
-          (λ below. getD-set-other at k i (getD xs k 0) 0 (λ same. absurd (omega arith)) ∙ f .front i below)
-          (eq-or-lt-of-le upto);
-      behind = λ i m. getD-set-other at k i (getD xs k 0) 0 (λ same. absurd (omega arith)) ∙ f .behind i (omega arith);
+      long = length-set at k (getD xs k 0) ∙ e .long;
+      end = λ i m. place i (eq-or-lt-of-le m);
     }
-
-pub filled-all : (xs at : List ℕ) → length xs ≤ 5 → Filled xs (length xs) at → at ≡ five xs
-filled-all xs at few f =
-    ext-getD 0 at (five xs) (f .long ∙ sym (length-five xs)) (λ i l. place i (decLt i (length xs)) ∙ sym (getD-take 5 (xs ++ replicate 5 0) i 0 (omega (arith, f .long)) ∙ before-zeros xs 5 i))
   where
-    place : (i : ℕ) → Dec (i < length xs) → getD at i 0 ≡ getD xs i 0
-    place i (yes l) = f .front i l
-    place i (no n) = let past : length xs ≤ i = omega (arith, n) in f .behind i past ∙ sym (List·getD-eq-default xs 0 past)
+    place : (i : ℕ) → (k ≡ i) ⊎ (k < i) → getD (set at k (getD xs k 0)) i 0 ≡ getD xs i 0
+    place i (inl same) = rw (← same) (getD-set-same at k (getD xs k 0) 0 (omega (arith, e .long)))
+    place i (inr above) = getD-set-other at k i (getD xs k 0) 0 (λ same. absurd (omega arith)) ∙ e .end i (omega arith)
+
+pub ends-all : (xs at : List ℕ) → Ends xs 0 at → at ≡ five xs
+ends-all xs at e =
+    ext-getD 0 at (five xs) (e .long ∙ sym (length-five xs))
+    (λ i l. e .end i (omega arith) ∙ sym (getD-take 5 (xs ++ replicate 5 0) i 0 (omega (arith, e .long)) ∙ before-zeros xs 5 i))
 
 -- ---- numbers and digits
 
@@ -133,7 +130,8 @@ number-small plan s position g k l =
       s .tiles-high,
     )
 
--- dividing by a base leaves the later ones
-pub divide-later : (bases : List ℕ) (k : ℕ) → k < length bases → 1 ≤ getD bases k 0
-    → product (drop k bases) / getD bases k 0 ≡ product (drop (k + 1) bases)
-divide-later bases k l low = rw (product-drop bases k l, add-one) (mul-div-right (product (drop (suc k) bases)) low)
+-- dividing by one base more
+pub divide-more : (bases : List ℕ) (n k : ℕ) → k < length bases → n / product (drop (suc k) bases) / getD bases k 0 ≡ n / product (drop k bases)
+divide-more bases n k l =
+    let same : product (drop (suc k) bases) * getD bases k 0 ≡ product (drop k bases) = omega (arith, product-drop bases k l) in
+    div-div-eq-div-mul n (product (drop (suc k) bases)) (getD bases k 0) ∙ ap (λ (p : ℕ). n / p) same

@@ -4,7 +4,7 @@ use layout::Plan;
 ghost use mathlib.Core.Bool.{true, false};
 ghost use mathlib.Core.Path.{_≡_};
 ghost use Prim.Native.Nat.{_+_, _<_, _≤_};
-ghost use lib.ListN.{set};
+ghost use lib.ListN.{getD, set};
 ghost use Rattle.multipartition.specs.Answers.{answered, refused as theRefusal};
 ghost use Rattle.multipartition.specs.MixedRadix.{numberFrom, digitsOf};
 ghost use Rattle.multipartition.specs.Tiles.{isInside, oneStepOn};
@@ -102,27 +102,35 @@ impl Position {
         TileNumber::Tile(1 + self.number_from_zero(plan))
     }
 
-    // The same coordinates, with zero past them.
-    fn cleared(self) -> Position
-        requires { ⌜ self .d ≤ 5 ⌝ }
-        ensures { λ r. ⌜ r ≡ positionWith (coordinates self) ⌝ }
+    // The number at a place, with x at place k: zero past d.
+    fn place_with(self, i: usize, k: usize, x: u32) -> u32
+        requires { ⌜ (i < 5) × (self .d ≤ 5) × (k < self .d) ⌝ }
+        ensures { λ r. ⌜ r ≡ getD (set (coordinates self) k x) i 0 ⌝ }
     {
-        let d = self.d;
-        let mut at = [0; 5];
-        for k in 0..d {
-            at[k] = self.at[k];
+        if i == k {
+            return x;
         }
-        Position { d: d, at: at }
+        if i < self.d {
+            return self.at[i];
+        }
+        0
     }
 
-    // The position with coordinate x at place k.
+    // The position with coordinate x at place k. Its places are named one by one: an array that is filled by its index and then handed on is slow to
+    // read.
     fn with(self, k: usize, x: u32) -> Position
         requires { ⌜ (self .d ≤ 5) × (k < self .d) ⌝ }
         ensures { λ r. ⌜ r ≡ positionWith (set (coordinates self) k x) ⌝ }
     {
-        let mut next = self.cleared();
-        next.at[k] = x;
-        next
+        let i1 = self.place_with(0, k, x);
+        let i2 = self.place_with(1, k, x);
+        let i3 = self.place_with(2, k, x);
+        let i4 = self.place_with(3, k, x);
+        let i5 = self.place_with(4, k, x);
+        Position {
+            d: self.d,
+            at: [i1, i2, i3, i4, i5],
+        }
     }
 
     // One step up along place k of a position of the grid.
@@ -227,18 +235,20 @@ fn not_found(number: u32) -> Located
     }
 }
 
-// The coordinates that make a number in mixed radix, from 0 on: `later` is the product of the later cuts.
+// The coordinates that make a number in mixed radix, from 0 on: from the last, which runs fastest, to the first.
 fn digits(plan: Plan, n: u32) -> Position
     requires { ⌜ Shaped plan ⌝ }
     ensures { λ r. ⌜ r ≡ positionWith (digitsOf (layoutOf plan .cuts) n) ⌝ }
 {
     let d = plan.d;
     let mut at = [0; 5];
-    let mut later = layout::tile_count(plan) as u32;
-    for k in 0..d {
+    let mut rest = n;
+    let mut k = d;
+    while 0 < k {
+        k = k - 1;
         let b = plan.cuts[k];
-        later = later / b;
-        at[k] = n / later % b;
+        at[k] = rest % b;
+        rest = rest / b;
     }
     Position { d: d, at: at }
 }

@@ -1,6 +1,6 @@
 -- `solver_link::lists::position_in` meets its contract. Assumes nothing.
 use borrow.Author.Needs.{needs}
-use Rattle.solver_link.proofs.Positions.{five-numbers}
+use Rattle.tiles.proofs.Coordinates.{five-numbers}
 use Rattle.solver_link.proofs.lists.position_in.Statement.{statement}
 use Rattle.solver_link.proofs.lists.position_in.Tie as tie
 
