@@ -1,6 +1,8 @@
 -- `layout::in_shape` meets its contract. Assumes nothing.
 use borrow.Author.Needs.{needs}
+use mathlib.Core.Path.{ap, _∙_}
 use Prim.Native.Nat.{_-_}
+use Rattle.layout.specs.declared.Plan.{Plan}
 use Rattle.layout.specs.Plans.{layoutOf}
 use Rattle.multipartition.specs.Plans.{inShape}
 use Rattle.layout.proofs.Lent.{plan-over}
@@ -14,7 +16,8 @@ returns : tie.Need-returns
 unfolding inShape layoutOf
 returns c =
     let plan = c .before .before .before .before .before .before .before .before .before .before .args .t1 in
-    rw (plan-over (plan .extents) (plan .cuts) (plan .moduli) (plan .matrix) (plan .d) (plan .p) (search needs)) at (c .shape-ok .ensures)
+    c .shape-ok .ensures
+    ∙ ap (λ (q : Plan). inShape (layoutOf q)) (plan-over (plan .extents) (plan .cuts) (plan .moduli) (plan .matrix) (plan .d) (plan .p) (search needs))
 
 pub in-shape-spec : {M : Type 1} → statement M
 in-shape-spec = tie.close (tie.spec shape-ok-requires returns)

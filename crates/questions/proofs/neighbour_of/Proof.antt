@@ -1,6 +1,8 @@
 -- `questions::neighbour_of` meets its contract. Assumes nothing.
 use borrow.Author.Needs.{needs}
+use mathlib.Core.Path.{ap, _∙_}
 use Prim.Native.Nat.{_-_}
+use Rattle.layout.specs.declared.Plan.{Plan}
 use Rattle.layout.specs.Plans.{layoutOf}
 use Rattle.multipartition.specs.Plans.{inShape}
 use Rattle.multipartition.specs.Questions.{neighbourAnswer}
@@ -14,8 +16,10 @@ neighbour-over-requires c κs = search needs
 returns : tie.Need-returns
 unfolding neighbourAnswer inShape layoutOf
 returns c =
-    let plan = c .before .before .before .before .before .before .before .before .before .before .args .t1 in
-    rw (plan-over (plan .extents) (plan .cuts) (plan .moduli) (plan .matrix) (plan .d) (plan .p) (search needs)) at (c .neighbour-over .ensures)
+    let a = c .before .before .before .before .before .before .before .before .before .before .args in
+    let plan = a .t1 in
+    c .neighbour-over .ensures
+    ∙ ap (λ (q : Plan). neighbourAnswer (layoutOf q) (a .processor) (a .dimension) (a .up)) (plan-over (plan .extents) (plan .cuts) (plan .moduli) (plan .matrix) (plan .d) (plan .p) (search needs))
 
 pub neighbour-of-spec : {M : Type 1} → statement M
 neighbour-of-spec = tie.close (tie.spec neighbour-over-requires returns)
