@@ -64,12 +64,12 @@ module _ (plan : Layout) where
 
   -- ---- steps
 
-  pub step-answered : (x y : List ℕ) (k : ℕ) (up : Bool) → (stepAnswer plan x k up ≡ answered (some y))
-      ↔ ((inShape plan ≡ true) × (between 1 (plan .d) k ≡ true) × Inside (plan .cuts) x × (oneStepOn (plan .cuts) (k - 1) up x ≡ some y))
+  pub step-answered : (x : List ℕ) (k : ℕ) (up : Bool) (next : Option (List ℕ)) → (stepAnswer plan x k up ≡ answered next)
+      ↔ ((inShape plan ≡ true) × (between 1 (plan .d) k ≡ true) × Inside (plan .cuts) x × (oneStepOn (plan .cuts) (k - 1) up x ≡ next))
   unfolding stepAnswer
-  step-answered x y k up = (
+  step-answered x k up next = (
     (λ e.
-        let h = answers-iff (shapeCheck plan ∷ dimensionCheck plan k ∷ rangeCheck (isInside (plan .cuts) x) ∷ []) (oneStepOn (plan .cuts) (k - 1) up x) (some y) .0 e in
+        let h = answers-iff (shapeCheck plan ∷ dimensionCheck plan k ∷ rangeCheck (isInside (plan .cuts) x) ∷ []) (oneStepOn (plan .cuts) (k - 1) up x) next .0 e in
         let inside = inside-of-test (plan .cuts) x (not-false (isInside (plan .cuts) x) (h .0 .1 .1 .0)) in
         (not-false (inShape plan) (h .0 .0), not-false (between 1 (plan .d) k) (h .0 .1 .0), inside, h .1)),
     λ h. rw (h .0, h .1, test-of-inside (plan .cuts) x (h .2)) (ap answered (h .3)),
@@ -78,8 +78,8 @@ module _ (plan : Layout) where
   -- a step that stays inside comes back by the step in the other direction
   pub step-comes-back : (x y : List ℕ) (k : ℕ) (up : Bool) → stepAnswer plan x k up ≡ answered (some y) → stepAnswer plan y k (not up) ≡ answered (some x)
   step-comes-back x y k up e =
-      let h = step-answered x y k up .0 e in
-      step-answered y x k (not up) .1
+      let h = step-answered x k up (some y) .0 e in
+      step-answered y k (not up) (some x) .1
       (h .0, h .1, one-step-on-inside (plan .cuts) x y (k - 1) up (h .2) (h .3), step-back (plan .cuts) x y (k - 1) up (h .2) (h .3))
 
   -- ---- slabs and elements

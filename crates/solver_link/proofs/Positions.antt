@@ -10,17 +10,16 @@ use native.Mathlib.Omega.{arith}
 use lib.ListN.{length, take, replicate}
 use lib.Seq.{take-append-le}
 use Rattle.multipartition.specs.Answers.{Answer, answered}
-use Rattle.multipartition.specs.Plans.{inShape, between, tilesOf}
-use Rattle.multipartition.specs.Tiles.{isInside, positionOf, oneStepOn}
+use Rattle.multipartition.specs.Plans.{inShape}
+use Rattle.multipartition.specs.Tiles.{Inside, isInside, positionOf}
 use Rattle.multipartition.specs.Questions.{numberAnswer, positionAnswer, stepAnswer}
-use Rattle.multipartition.proofs.Answers.{answered-iff, answered-injective}
+use Rattle.multipartition.proofs.BothWays.{position-answered, step-answered}
 use Rattle.multipartition.proofs.MixedRadix.{length-digits}
-use Rattle.multipartition.proofs.Tiles.{inside-of-test, inside-length, one-step-on-inside}
+use Rattle.multipartition.proofs.Tiles.{inside-length, one-step-on-inside}
 use Rattle.layout.specs.declared.Plan.{Plan}
 use Rattle.layout.specs.Plans.{layoutOf}
 use Rattle.layout.proofs.Places.{cuts-length}
-use Rattle.layout.specs.Shaped.{Shaped}
-use Rattle.layout.proofs.Positions.{outside-by-length, in-grid}
+use Rattle.layout.proofs.Positions.{outside-by-length}
 use Rattle.layout.proofs.Shaped.{shaped}
 use Rattle.tiles.specs.declared.positions.Position.{Position}
 use Rattle.tiles.specs.declared.positions.Step.{Step}
@@ -79,28 +78,23 @@ module _ (plan : Plan) (xs : List ℕ) where
 
 -- an answered position has d coordinates, at most five
 pub position-few : (plan : Plan) (tile : ℕ) (xs : List ℕ) → positionAnswer (layoutOf plan) tile ≡ answered xs → length xs ≤ 5
-unfolding positionAnswer positionOf
+unfolding positionOf
 position-few plan tile xs e =
-    let shape = answered-iff (inShape (layoutOf plan)) 6 0 _ xs .0 e in
-    let s = shaped plan (shape .0) in
-    let found = answered-iff (between 1 (tilesOf (layoutOf plan)) tile) 8 0 (answered (positionOf (layoutOf plan .cuts) tile)) xs .0 (shape .1) in
-    let same = ap length (answered-injective _ _ (found .1)) in
-    omega (arith, length-digits (layoutOf plan .cuts) (tile - 1), cuts-length plan s, s .d-high)
+    let found = position-answered (layoutOf plan) tile xs .0 e in
+    let s = shaped plan (found .0) in
+    omega (arith, ap length (found .2), length-digits (layoutOf plan .cuts) (tile - 1), cuts-length plan s, s .d-high)
 
+-- so has a position one step on, and the one before it
 module _ (plan : Plan) (xs : List ℕ) (k : ℕ) (up : Bool) (next : Option (List ℕ)) (e : stepAnswer (layoutOf plan) xs k up ≡ answered next) where
-  step-passed : (Shaped plan) × (inGrid plan xs xs ≡ true) × (oneStepOn (layoutOf plan .cuts) (k - 1) up xs ≡ next)
-  unfolding stepAnswer
-  step-passed =
-      let shape = answered-iff (inShape (layoutOf plan)) 6 0 _ next .0 e in
-      let dimension = answered-iff (between 1 (layoutOf plan .d) k) 7 0 _ next .0 (shape .1) in
-      let inside = answered-iff (isInside (layoutOf plan .cuts) xs) 8 0 (answered (oneStepOn (layoutOf plan .cuts) (k - 1) up xs)) next .0 (dimension .1) in
-      (shaped plan (shape .0), inside .0, answered-injective _ _ (inside .1))
+  few-inside : (ys : List ℕ) → Inside (layoutOf plan .cuts) ys → length ys ≤ 5
+  few-inside ys inside =
+      let s = shaped plan (step-answered (layoutOf plan) xs k up next .0 e .0) in
+      omega (arith, inside-length (layoutOf plan .cuts) ys inside, cuts-length plan s, s .d-high)
 
   pub step-few : length xs ≤ 5
-  step-few = omega (arith, in-grid plan (step-passed .0) xs (step-passed .1) .coordinates, step-passed .0 .d-high)
+  step-few = few-inside xs (step-answered (layoutOf plan) xs k up next .0 e .2)
 
   pub step-next-few : (ys : List ℕ) → next ≡ some ys → length ys ≤ 5
   step-next-few ys is-some =
-      let cuts = layoutOf plan .cuts in
-      let inside = one-step-on-inside cuts xs ys (k - 1) up (inside-of-test cuts xs (step-passed .1)) (step-passed .2 ∙ is-some) in
-      omega (arith, inside-length cuts ys inside, cuts-length plan (step-passed .0), step-passed .0 .d-high)
+      let h = step-answered (layoutOf plan) xs k up next .0 e in
+      few-inside ys (one-step-on-inside (layoutOf plan .cuts) xs ys (k - 1) up (h .2) (h .3 ∙ is-some))
