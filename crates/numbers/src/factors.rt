@@ -1,6 +1,7 @@
 // The least factors and the divisors of the numbers up to 4096, by a table of least factors.
 ghost use mathlib.Core.Path.{_≡_};
 ghost use Prim.Native.Nat.{_*_, _<_, _≤_, min};
+ghost use lib.ListN.{length};
 ghost use Rattle.numbers.specs.Sums.{same};
 ghost use Rattle.numbers.specs.LeastFactor.{leastFactor, leastFactorAnswer, LeastFactors, Prime};
 ghost use Rattle.numbers.specs.Divisors.{divisorsOf, divisorsAnswer, Listed};
@@ -69,7 +70,7 @@ fn by_factors(n: u32) -> Divisors
     let mut rest = n;
     while rest > 1 {
         let f = least(&entries, rest as usize) as u32;
-        known = times_prime(known, done, f);
+        known = times_prime(&known.of, done, f);
         done = f * done;
         rest = rest / f;
     }
@@ -78,13 +79,12 @@ fn by_factors(n: u32) -> Divisors
 
 // The divisors of f * m from those of m. They are the divisors of m and f times these: the two runs are merged,
 // and what stands in both is written once.
-fn times_prime(known: Divisors, m: u32, f: u32) -> Divisors
+fn times_prime(older: &[u32; 128], m: u32, f: u32) -> Divisors
     requires { ⌜ (0 < m) × (f * m ≤ 4096) ⌝ }
     requires { ⌜ Prime f ⌝ }
-    requires { ⌜ Listed (divisorsOf m) (known .count) (known .of) ⌝ }
+    requires { ⌜ Listed (divisorsOf m) (length (divisorsOf m)) (now older) ⌝ }
     ensures { λ r. ⌜ Listed (divisorsOf (f * m)) (r .count) (r .of) ⌝ }
 {
-    let older = known.of;
     let n = f * m;
     let mut of = [0u32; 128];
     let mut count = 0usize;

@@ -1,6 +1,6 @@
 -- `by_factors` meets its contract. The loop's invariant: done * rest is n, and the divisors of `done` are known.
 -- `rest` falls, since its least factor is above 1.
-use mathlib.Core.Path.{_≡_}
+use mathlib.Core.Path.{_≡_, refl}
 use Prim.Native.Nat.{_<_}
 use native.Mathlib.Omega.{arith}
 use borrow.Author.Needs.{needs}
@@ -43,22 +43,22 @@ cast-f c = search needs
 
 times-prime-requires : tie.Need-times-prime-requires Inv-loop μ-loop
 times-prime-requires c κs =
-    let (S, known, right) = c .before .before .before .loop .inv in
-    let f-is : c .least .result ≡ leastFactor (c .before .before .before .loop .rest) = c .least .ensures in
-    let more : 1 < c .before .before .before .loop .rest = omega arith in
-    ((done-pos S, omega (arith, done-le S f-is more)), (factor-prime S f-is more, known))
+    let (S, known, right) = c .before .before .before .before .before .loop .inv in
+    let f-is : c .before .before .least .result ≡ leastFactor (c .before .before .before .before .before .loop .rest) = c .before .before .least .ensures in
+    let more : 1 < c .before .before .before .before .before .loop .rest = omega arith in
+    ((done-pos S, omega (arith, done-le S f-is more)), (factor-prime S f-is more, record { counted = refl; places = known .places }))
 
 mul-done : tie.Need-mul-done Inv-loop μ-loop
-mul-done c = omega (arith, done-le (c .before .before .before .before .loop .inv .0) (c .before .least .ensures) (omega arith))
+mul-done c = omega (arith, done-le (c .before .before .before .before .before .before .loop .inv .0) (c .before .before .before .least .ensures) (omega arith))
 
 div-rest : tie.Need-div-rest Inv-loop μ-loop
-div-rest c = omega (arith, factor-prime (c .before .before .before .before .loop .inv .0) (c .before .least .ensures) (omega arith) .above-one)
+div-rest c = omega (arith, factor-prime (c .before .before .before .before .before .before .loop .inv .0) (c .before .before .before .least .ensures) (omega arith) .above-one)
 
 loop-less : tie.Need-loop-less Inv-loop μ-loop
-loop-less c = rest-falls (c .before .before .before .before .loop .inv .0) (c .before .least .ensures) (omega arith)
+loop-less c = rest-falls (c .before .before .before .before .before .before .loop .inv .0) (c .before .before .before .least .ensures) (omega arith)
 
 loop-again : tie.Need-loop-again Inv-loop μ-loop
-loop-again c = (factoring-step (c .before .before .before .before .loop .inv .0) (c .before .least .ensures) (omega arith), c .times-prime .ensures, c .before .before .before .before .loop .inv .2)
+loop-again c = (factoring-step (c .before .before .before .before .before .before .loop .inv .0) (c .before .before .before .least .ensures) (omega arith), c .times-prime .ensures, c .before .before .before .before .before .before .loop .inv .2)
 
 returns : tie.Need-returns Inv-loop μ-loop
 returns c =
