@@ -9,7 +9,7 @@ use Rattle.multipartition.specs.Answers.{Answer, answered, refused, checked}
 use Rattle.chains.specs.declared.Chained.{Chained}
 use Rattle.chains.specs.Told.{toldChained, afterwards, Answers}
 use Rattle.solver_link.proofs.Parts.{sets-all}
-use Rattle.solver_link.specs.Link.{planListCheck, andThen, into, codeOf, heldBy, Linked}
+use Rattle.solver_link.specs.Link.{planPlaces, planListCheck, andThen, into, codeOf, heldBy, Linked}
 
 pub linked-into : (lent numbers after : List ℕ) → length lent ≡ length numbers → after ≡ sets lent 0 numbers
     → Linked (into (length lent) numbers) lent 0 after
@@ -20,24 +20,24 @@ pub linked-length : (lent numbers : List ℕ) → (length lent ≡ length number
 linked-length lent numbers e = rw (ne-eqb _ _ e) (record { returned = refl; held = refl })
 
 -- "a plan list of a wrong length is a 6"
-pub linked-list-length : {A : Type 0} (list : List ℕ) (asked : Answer A) (lent : A) → (length list ≡ 49 → ⊥)
+pub linked-list-length : {A : Type 0} (list : List ℕ) (asked : Answer A) (lent : A) → (length list ≡ planPlaces → ⊥)
     → Linked (checked (planListCheck list ∷ []) asked) lent 6 lent
 linked-list-length list asked lent e = rw (ne-eqb _ _ e) (record { returned = refl; held = refl })
 
 -- a question about a plan list, where the call behind it answers
-pub linked-answered : {A : Type 0} (list : List ℕ) (asked : Answer A) (next : A → Answer (List ℕ)) (lent : List ℕ) → length list ≡ 49
+pub linked-answered : {A : Type 0} (list : List ℕ) (asked : Answer A) (next : A → Answer (List ℕ)) (lent : List ℕ) → length list ≡ planPlaces
     → (a : A) → asked ≡ answered a → (code : ℕ) (after : List ℕ) → Linked (next a) lent code after
     → Linked (checked (planListCheck list ∷ []) (andThen asked next)) lent code after
 linked-answered list asked next lent e a told code after l = rw (eq-eqb _ _ e, told) l
 
 -- the same, where it refuses
-pub linked-refused : {A : Type 0} (list : List ℕ) (asked : Answer A) (next : A → Answer (List ℕ)) (lent : List ℕ) → length list ≡ 49
+pub linked-refused : {A : Type 0} (list : List ℕ) (asked : Answer A) (next : A → Answer (List ℕ)) (lent : List ℕ) → length list ≡ planPlaces
     → (number place : ℕ) → asked ≡ refused number place → (code : ℕ) → code ≡ number + 4294967296 * place
     → Linked (checked (planListCheck list ∷ []) (andThen asked next)) lent code lent
 linked-refused list asked next lent e number place told code sum = rw (eq-eqb _ _ e, told) (record { returned = sum; held = refl })
 
 -- the chains of a plan list
-pub linked-chains : (list : List ℕ) (asked : Answer (List ℕ × List ℕ)) (chained : Chained) (lent after : List ℕ × List ℕ) → length list ≡ 49
+pub linked-chains : (list : List ℕ) (asked : Answer (List ℕ × List ℕ)) (chained : Chained) (lent after : List ℕ × List ℕ) → length list ≡ planPlaces
     → Answers asked chained lent after → (code : ℕ) → ((lists : List ℕ × List ℕ) → code ≡ codeOf (toldChained chained lists))
     → Linked (checked (planListCheck list ∷ []) asked) lent code after
 linked-chains list asked chained lent after e answers code sum =

@@ -14,7 +14,7 @@ use Rattle.layout.specs.declared.Plan.{Plan}
 use Rattle.layout.specs.Plans.{flat, planOf, layoutOf}
 use Rattle.layout.specs.Lent.{lentPlan, planOver}
 use Rattle.layout.proofs.Lent.{plan-over}
-use Rattle.solver_link.specs.Link.{planIn, listOfPlan}
+use Rattle.solver_link.specs.Link.{planPlaces, planIn, listOfPlan}
 use Rattle.solver_link.proofs.Parts.{sets-append}
 
 -- the lengths of a plan's arrays: every plan by value has them
@@ -97,7 +97,7 @@ module _ (plan : Plan) (arrays : Arrays plan) where
       let whole : plan .cost % 4294967296 + 4294967296 * (plan .cost / 4294967296) ≡ plan .cost = omega (arith, div-add-mod' (plan .cost) 4294967296) in
       rw (extents-in, weights-in, cuts-in, cost-low-in, cost-high-in, whole, moduli-in, matrix-in)
 
-  pub length-list : length (listOfPlan plan) ≡ 49
+  pub length-list : length (listOfPlan plan) ≡ planPlaces
   unfolding listOfPlan
   length-list = simp length-append (omega (arith, arrays))
 
@@ -109,8 +109,8 @@ module _ (plan : Plan) (arrays : Arrays plan) where
   sets-parts list = sym (simp (sets-append, arrays .extents-length, arrays .weights-length, arrays .cuts-length, arrays .moduli-length))
 
 -- the parts of a plan list that the questions read
-module _ (list : List ℕ) (long : length list ≡ 49) where
-  part-length : (at n : ℕ) → at + n ≤ 49 → length (take n (drop at list)) ≡ n
+module _ (list : List ℕ) (long : length list ≡ planPlaces) where
+  part-length : (at n : ℕ) → at + n ≤ planPlaces → length (take n (drop at list)) ≡ n
   part-length at n room = length-take-le n (drop at list) (omega (arith, length-drop at list))
 
   abbrev over : Plan

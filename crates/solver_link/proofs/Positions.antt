@@ -4,11 +4,11 @@ use mathlib.Core.Path.{_≡_, refl, sym, ap, _∙_}
 use mathlib.Core.Bool.{Bool, true, false}
 use mathlib.Core.List.{List, [], _∷_}
 use mathlib.Core.Option.{Option, some}
-use Prim.Native.Nat.{ℕ, zero, suc, _-_, _≤_}
+use Prim.Native.Nat.{ℕ, zero, suc, _+_, _-_, _≤_}
 use native.Mathlib.Decide.{decLe}
 use native.Mathlib.Omega.{arith}
-use lib.ListN.{length, take, replicate}
-use lib.Seq.{take-append-le}
+use lib.ListN.{length, getD, set, take, replicate}
+use lib.Seq.{take-at, take-append-le}
 use Rattle.multipartition.specs.Answers.{Answer, answered}
 use Rattle.multipartition.specs.Plans.{inShape}
 use Rattle.multipartition.specs.Tiles.{Inside, isInside, positionOf}
@@ -26,7 +26,32 @@ use Rattle.tiles.specs.declared.positions.Step.{Step}
 use Rattle.tiles.specs.declared.positions.Moved.{Moved}
 use Rattle.tiles.specs.Answers.{toldStep, Moves}
 use Rattle.tiles.specs.Positions.{coordinates, positionWith}
-use Rattle.tiles.proofs.Coordinates.{length-coordinates, coordinates-with}
+use Rattle.tiles.proofs.Coordinates.{length-coordinates, coordinates-with, five-numbers}
+
+-- the first of five numbers put one by one into a list of as many places or fewer
+pub five-set : (xs at : List ℕ) → length at ≡ 5 → length xs ≤ 5
+    → set (set (set (set (set xs 0 (getD at 0 0)) 1 (getD at 1 0)) 2 (getD at 2 0)) 3 (getD at 3 0)) 4 (getD at 4 0) ≡ take (length xs) at
+five-set xs at long few =
+    put xs (getD at 0 0) (getD at 1 0) (getD at 2 0) (getD at 3 0) (getD at 4 0) few
+    ∙ ap (take (length xs)) (five-numbers at ∙ take-at at (replicate 5 0) 5 long)
+  where
+    put : (xs : List ℕ) (a b c d e : ℕ) → length xs ≤ 5
+        → set (set (set (set (set xs 0 a) 1 b) 2 c) 3 d) 4 e ≡ take (length xs) (a ∷ b ∷ c ∷ d ∷ e ∷ [])
+    put [] a b c d e few = refl
+    put (x1 ∷ []) a b c d e few = refl
+    put (x1 ∷ x2 ∷ []) a b c d e few = refl
+    put (x1 ∷ x2 ∷ x3 ∷ []) a b c d e few = refl
+    put (x1 ∷ x2 ∷ x3 ∷ x4 ∷ []) a b c d e few = refl
+    put (x1 ∷ x2 ∷ x3 ∷ x4 ∷ x5 ∷ []) a b c d e few = refl
+    put (x1 ∷ x2 ∷ x3 ∷ x4 ∷ x5 ∷ x6 ∷ xs) a b c d e few = absurd (omega arith)
+
+-- the same behind a first number
+pub step-set : (xs at : List ℕ) (inside d : ℕ) → length at ≡ 5 → length xs ≡ d + 1 → d ≤ 5
+    → set (set (set (set (set (set xs 0 inside) 1 (getD at 0 0)) 2 (getD at 1 0)) 3 (getD at 2 0)) 4 (getD at 3 0)) 5 (getD at 4 0) ≡ inside ∷ take d at
+step-set [] at inside d long many few = absurd (omega arith)
+step-set (x ∷ xs) at inside d long many few =
+    let rest : length xs ≡ d = omega arith in
+    ap (λ (ys : List ℕ). inside ∷ ys) (five-set xs at long (omega arith) ∙ ap (λ (n : ℕ). take n at) rest)
 
 -- the coordinates of a position by value
 pub coordinates-front : (position : Position) → position .d ≤ length (position .at) → coordinates position ≡ take (position .d) (position .at)

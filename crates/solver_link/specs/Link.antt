@@ -37,9 +37,13 @@ listOfPlan plan =
     ∷ plan .extents
     ++ (plan .weights ++ (plan .cuts ++ (plan .cost % 4294967296 ∷ plan .cost / 4294967296 ∷ plan .moduli ++ plan .matrix)))
 
+-- how many places a plan list has
+abbrev pub planPlaces : ℕ
+planPlaces = 49
+
 -- "Over that link a plan list of a wrong length is a 6"
 abbrev pub planListCheck : List ℕ → Check
-planListCheck list = record { fails = not (eqb (length list) 49); number = 6; place = 0 }
+planListCheck list = record { fails = not (eqb (length list) planPlaces); number = 6; place = 0 }
 
 -- ---- answers
 

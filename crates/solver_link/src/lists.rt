@@ -8,18 +8,18 @@ use tiles::positions::Position;
 ghost use mathlib.Core.List.{[], _∷_};
 ghost use mathlib.Core.Path.{_≡_};
 ghost use Prim.Native.Nat.{_+_, _*_, _≤_, _<_};
-ghost use lib.ListN.{length, getD, take, drop};
+ghost use lib.ListN.{length, getD, set, take, drop};
 ghost use lib.Seq.{sets};
 ghost use Rattle.multipartition.specs.Questions.{ownerAnswer, neighbourAnswer};
 ghost use Rattle.layout.specs.Plans.{layoutOf};
 ghost use Rattle.questions.specs.Told.{toldOwner, toldNeighbour};
 ghost use Rattle.tiles.specs.Positions.{coordinates, positionWith};
-ghost use Rattle.solver_link.specs.Link.{planIn, listOfPlan, into, Linked};
+ghost use Rattle.solver_link.specs.Link.{planIn, listOfPlan, planPlaces, into, Linked};
 
-// Where the parts of a plan list start, and how many places it has.
-pub const D: usize = 0;
+// Where the parts of a plan list start, where the last of them ends, and how many places the list has.
+pub const DIMENSIONS: usize = 0;
 
-pub const P: usize = 1;
+pub const PROCESSORS: usize = 1;
 
 pub const EXTENTS: usize = 2;
 
@@ -34,6 +34,8 @@ pub const COST_HIGH: usize = 18;
 pub const MODULI: usize = 19;
 
 pub const MATRIX: usize = 24;
+
+const MATRIX_END: usize = 49;
 
 pub const PLAN_LENGTH: usize = 49;
 
@@ -61,11 +63,11 @@ fn five(list: &[u32], at: usize) -> [u32; 5]
 
 // The matrix of a plan list.
 fn matrix_in(list: &[u32]) -> [u32; 25]
-    requires { ⌜ length (now list) ≡ 49 ⌝ }
+    requires { ⌜ length (now list) ≡ planPlaces ⌝ }
     ensures { λ r. ⌜ r ≡ take 25 (drop 24 (now (list .entry))) ⌝ }
 {
     let mut out = [0u32; 25];
-    put_part(&mut out, 0, &list[MATRIX..PLAN_LENGTH]);
+    put_part(&mut out, 0, &list[MATRIX..MATRIX_END]);
     out
 }
 
@@ -78,11 +80,11 @@ pub fn joined(low: u32, high: u32) -> u64
 
 // The plan of a list.
 pub fn plan_in(list: &[u32]) -> Plan
-    requires { ⌜ length (now list) ≡ 49 ⌝ }
+    requires { ⌜ length (now list) ≡ planPlaces ⌝ }
     ensures { λ r. ⌜ r ≡ planIn (now (list .entry)) ⌝ }
 {
-    let d = list[D] as usize;
-    let p = list[P];
+    let d = list[DIMENSIONS] as usize;
+    let p = list[PROCESSORS];
     let extents = five(list, EXTENTS);
     let weights = five(list, WEIGHTS);
     let cuts = five(list, CUTS);
@@ -103,32 +105,32 @@ pub fn plan_in(list: &[u32]) -> Plan
 
 // Who owns a position of the plan of a list, of which nothing is copied.
 pub fn owner_in<'a>(list: &'a [u32], position: &'a [u32]) -> Owner
-    requires { ⌜ length (now list) ≡ 49 ⌝ }
+    requires { ⌜ length (now list) ≡ planPlaces ⌝ }
     ensures { λ r. ⌜ toldOwner r ≡ ownerAnswer (layoutOf (planIn (now (list .entry)))) (now (position .entry)) ⌝ }
 {
     owner_over(
-        list[D] as usize,
-        list[P],
+        list[DIMENSIONS] as usize,
+        list[PROCESSORS],
         &list[EXTENTS..WEIGHTS],
         &list[CUTS..COST_LOW],
         &list[MODULI..MATRIX],
-        &list[MATRIX..PLAN_LENGTH],
+        &list[MATRIX..MATRIX_END],
         position,
     )
 }
 
 // Who is the neighbour of a processor of the plan of a list, likewise.
 pub fn neighbour_in(list: &[u32], processor: u32, dimension: usize, up: bool) -> Neighbour
-    requires { ⌜ length (now list) ≡ 49 ⌝ }
+    requires { ⌜ length (now list) ≡ planPlaces ⌝ }
     ensures { λ r. ⌜ toldNeighbour r ≡ neighbourAnswer (layoutOf (planIn (now (list .entry)))) processor dimension up ⌝ }
 {
     neighbour_over(
-        list[D] as usize,
-        list[P],
+        list[DIMENSIONS] as usize,
+        list[PROCESSORS],
         &list[EXTENTS..WEIGHTS],
         &list[CUTS..COST_LOW],
         &list[MODULI..MATRIX],
-        &list[MATRIX..PLAN_LENGTH],
+        &list[MATRIX..MATRIX_END],
         processor,
         dimension,
         up,
@@ -183,6 +185,28 @@ pub fn position_in(list: &[u32]) -> Position
     }
 }
 
+// A number at a place of a list, if it has that place.
+fn put_place(list: &mut [u32], k: usize, x: u32)
+    ensures { λ r. ⌜ now (list .exit) ≡ set (now (list .entry)) k x ⌝ }
+{
+    if k < list.len() {
+        list[k] = x;
+    }
+}
+
+// Five numbers into a list, from place `at` on, as many as it has places for. They are named one by one: numbers that were written one by one are slow
+// to read as one part.
+fn put_five(list: &mut [u32], at: usize, a: u32, b: u32, c: u32, d: u32, e: u32)
+    requires { ⌜ at ≤ 1 ⌝ }
+    ensures { λ r. ⌜ now (list .exit) ≡ set (set (set (set (set (now (list .entry)) at a) (at + 1) b) (at + 2) c) (at + 3) d) (at + 4) e ⌝ }
+{
+    put_place(list, at, a);
+    put_place(list, at + 1, b);
+    put_place(list, at + 2, c);
+    put_place(list, at + 3, d);
+    put_place(list, at + 4, e);
+}
+
 // A position's coordinates into an answer list, likewise.
 pub fn put_position(answer: &mut [u32], position: Position) -> u64
     requires { ⌜ position .d ≤ 5 ⌝ }
@@ -193,7 +217,7 @@ pub fn put_position(answer: &mut [u32], position: Position) -> u64
         return 9;
     }
     let at = position.at;
-    put_part(answer, 0, &at[..d]);
+    put_five(answer, 0, at[0], at[1], at[2], at[3], at[4]);
     0
 }
 
@@ -208,7 +232,7 @@ pub fn put_step(answer: &mut [u32], inside: u32, position: Position) -> u64
     }
     answer[0] = inside;
     let at = position.at;
-    put_part(answer, 1, &at[..d]);
+    put_five(answer, 1, at[0], at[1], at[2], at[3], at[4]);
     0
 }
 
@@ -225,7 +249,7 @@ pub fn put_plan(list: &mut [u32], plan: Plan) -> u64
     let low = (plan.cost % 4294967296) as u32;
     let high = (plan.cost / 4294967296) as u32;
     let cost = [low, high];
-    put_part(list, D, &front);
+    put_part(list, DIMENSIONS, &front);
     put_part(list, EXTENTS, &plan.extents);
     put_part(list, WEIGHTS, &plan.weights);
     put_part(list, CUTS, &plan.cuts);

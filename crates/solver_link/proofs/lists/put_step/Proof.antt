@@ -1,14 +1,15 @@
 -- `solver_link::lists::put_step` meets its contract. Assumes nothing.
 use borrow.Author.Needs.{needs}
-use mathlib.Core.List.{_∷_}
+use mathlib.Core.List.{List, _∷_}
 use mathlib.Core.Path.{_≡_, sym, ap, _∙_}
+use Prim.Native.Nat.{ℕ}
 use native.Mathlib.Omega.{arith}
-use lib.ListN.{length, take, length-set}
-use lib.Seq.{sets, length-take-le}
+use lib.ListN.{length, length-set}
 use Rattle.tiles.specs.Positions.{coordinates}
 use Rattle.tiles.proofs.Coordinates.{length-coordinates}
 use Rattle.solver_link.proofs.Answers.{linked-into, linked-length}
-use Rattle.solver_link.proofs.Positions.{coordinates-front}
+use Rattle.solver_link.proofs.Parts.{sets-all}
+use Rattle.solver_link.proofs.Positions.{step-set, coordinates-front}
 use Rattle.solver_link.proofs.lists.put_step.Statement.{statement}
 use Rattle.solver_link.proofs.lists.put_step.Tie as tie
 
@@ -23,31 +24,37 @@ returns c =
 slice-write-answer : tie.Need-slice-write-answer
 slice-write-answer c = search needs
 
-array-share-prefix-at : tie.Need-array-share-prefix-at
-array-share-prefix-at c =
-    let long : length (c .before .before .before .before .args .position .at) ≡ 5 = search needs in omega arith
+array-read-put-five : tie.Need-array-read-put-five
+array-read-put-five c = search needs
 
-slice-aggregate-put-part : tie.Need-slice-aggregate-put-part
-slice-aggregate-put-part c =
-    let p = c .before .before .before .before .before .args .position in
-    let long : length (p .at) ≡ 5 = search needs in
-    sym (length-take-le (p .d) (p .at) (omega arith))
+array-read-put-five-2 : tie.Need-array-read-put-five-2
+array-read-put-five-2 c = search needs
 
-put-part-requires : tie.Need-put-part-requires
-put-part-requires c κs =
-    let a = c .before .before .before .before .before .args in
-    let long : length (a .position .at) ≡ 5 = search needs in
-    omega (arith, length-take-le (a .position .d) (a .position .at) (omega arith), length-set (a .answer .now) 0 (a .inside))
+array-read-put-five-3 : tie.Need-array-read-put-five-3
+array-read-put-five-3 c = search needs
+
+array-read-put-five-4 : tie.Need-array-read-put-five-4
+array-read-put-five-4 c = search needs
+
+array-read-put-five-5 : tie.Need-array-read-put-five-5
+array-read-put-five-5 c = search needs
+
+put-five-requires : tie.Need-put-five-requires
+put-five-requires c κs = search needs
 
 same-length : tie.Need-same-length
-same-length c = c .before .before .put-part .ensures .1 ∙ simp length-set
+same-length c = rw (c .before .before .put-five .ensures) (simp length-set)
 
 returns-2 : tie.Need-returns-2
 returns-2 c =
-    let a = c .before .before .before .before .before .before .before .before .args in
+    let a = c .before .before .before .before .before .before .before .args in
     let long : length (a .position .at) ≡ 5 = search needs in
-    linked-into (a .answer .now) (a .inside ∷ coordinates (a .position)) _ (omega (arith, length-coordinates (a .position)))
-    (rw (coordinates-front (a .position) (omega arith)) (c .before .before .put-part .ensures .0))
+    let numbers : List ℕ = a .inside ∷ coordinates (a .position) in
+    let same : length (a .answer .now) ≡ length numbers = omega (arith, length-coordinates (a .position)) in
+    linked-into (a .answer .now) numbers _ same
+    (c .before .before .put-five .ensures ∙ step-set (a .answer .now) (a .position .at) (a .inside) (a .position .d) long (omega arith) (omega arith)
+    ∙ ap (λ (xs : List ℕ). a .inside ∷ xs) (sym (coordinates-front (a .position) (omega arith)))
+    ∙ sym (sets-all (a .answer .now) numbers same))
 
 pub put-step-spec : {M : Type 1} → statement M
 put-step-spec =
@@ -56,8 +63,11 @@ put-step-spec =
     add-if1
     returns
     slice-write-answer
-    array-share-prefix-at
-    slice-aggregate-put-part
-    put-part-requires
+    array-read-put-five
+    array-read-put-five-2
+    array-read-put-five-3
+    array-read-put-five-4
+    array-read-put-five-5
+    put-five-requires
     same-length
     returns-2)
