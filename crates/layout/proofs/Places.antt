@@ -10,7 +10,7 @@ use Rattle.multipartition.specs.Plans.{entryAt}
 use Rattle.layout.specs.declared.Plan.{Plan}
 use Rattle.layout.specs.Plans.{rowsFrom, layoutOf}
 use Rattle.layout.specs.Shaped.{entryOf, Shaped}
-use Rattle.layout.specs.Sized.{Sized, Arrays}
+use Rattle.layout.specs.Sized.{Sized}
 
 pub length-rows : (d i n : ℕ) (matrix : List ℕ) → length (rowsFrom d i n matrix) ≡ n
 unfolding rowsFrom
@@ -35,6 +35,14 @@ pub entry-at : (d : ℕ) (matrix : List ℕ) (i j : ℕ) → i < d → j < d →
 entry-at d matrix i j hi hj = rw (row-at d matrix i hi, getD-take d (drop (i * 5) matrix) j 0 hj) (getD-drop (i * 5) matrix j 0)
 
 -- ---- of a plan
+
+-- the places of a plan's arrays: every plan by value has them
+pub record Arrays (plan : Plan) : Type 0 where
+  pub extents-places : length (plan .extents) ≡ 5
+  pub weights-places : length (plan .weights) ≡ 5
+  pub cuts-places : length (plan .cuts) ≡ 5
+  pub moduli-places : length (plan .moduli) ≡ 5
+  pub matrix-places : length (plan .matrix) ≡ 25
 
 -- every plan by value has a layout of d numbers a list, which "in shape" does not say of a layout
 pub layout-sized : (plan : Plan) → Arrays plan → plan .d ≤ 5 → Sized (layoutOf plan)

@@ -4,7 +4,6 @@ use mathlib.Core.Path.{_≡_}
 use Prim.Native.Nat.{ℕ, _≤_, _<_}
 use lib.ListN.{length, getD}
 use Rattle.multipartition.specs.Plans.{Layout}
-use Rattle.layout.specs.declared.Plan.{Plan}
 
 -- "each list has d numbers, the matrix d rows of d numbers", and d is at most 5
 pub record Sized (layout : Layout) : Type 0 where
@@ -15,11 +14,3 @@ pub record Sized (layout : Layout) : Type 0 where
   pub moduli-length : length (layout .moduli) ≡ layout .d
   pub matrix-length : length (layout .matrix) ≡ layout .d
   pub row-length : (i : ℕ) → i < layout .d → length (getD (layout .matrix) i []) ≡ layout .d
-
--- the places of a plan's arrays: every plan by value has them
-pub record Arrays (plan : Plan) : Type 0 where
-  pub extents-places : length (plan .extents) ≡ 5
-  pub weights-places : length (plan .weights) ≡ 5
-  pub cuts-places : length (plan .cuts) ≡ 5
-  pub moduli-places : length (plan .moduli) ≡ 5
-  pub matrix-places : length (plan .matrix) ≡ 25

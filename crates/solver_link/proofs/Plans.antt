@@ -14,27 +14,20 @@ use Rattle.layout.specs.declared.Plan.{Plan}
 use Rattle.layout.specs.Plans.{flat, planOf, layoutOf}
 use Rattle.layout.specs.Lent.{lentPlan, planOver}
 use Rattle.layout.proofs.Lent.{plan-over}
+use Rattle.layout.proofs.Places.{Arrays}
 use Rattle.solver_link.specs.Link.{planPlaces, planIn, listOfPlan}
 use Rattle.solver_link.proofs.Parts.{sets-append}
 
--- the lengths of a plan's arrays: every plan by value has them
-pub record Arrays (plan : Plan) : Type 0 where
-  pub extents-length : length (plan .extents) ≡ 5
-  pub weights-length : length (plan .weights) ≡ 5
-  pub cuts-length : length (plan .cuts) ≡ 5
-  pub moduli-length : length (plan .moduli) ≡ 5
-  pub matrix-length : length (plan .matrix) ≡ 25
-
--- so has the plan of a layout
+-- the plan of a layout has the places of every plan by value
 pub arrays-of-layout : (layout : Layout) → Arrays (planOf layout)
 unfolding planOf
 arrays-of-layout layout =
     record {
-      extents-length = length-front 5 (layout .extents);
-      weights-length = length-front 5 (layout .weights);
-      cuts-length = length-front 5 (layout .cuts);
-      moduli-length = length-front 5 (layout .moduli);
-      matrix-length = length-front 25 (flat (layout .matrix));
+      extents-places = length-front 5 (layout .extents);
+      weights-places = length-front 5 (layout .weights);
+      cuts-places = length-front 5 (layout .cuts);
+      moduli-places = length-front 5 (layout .moduli);
+      matrix-places = length-front 25 (flat (layout .matrix));
     }
   where
     length-front : (n : ℕ) (xs : List ℕ) → length (take n (xs ++ replicate n 0)) ≡ n
@@ -55,35 +48,35 @@ module _ (plan : Plan) (arrays : Arrays plan) where
 
   weights-on : drop 7 (listOfPlan plan) ≡ plan .weights ++ (plan .cuts ++ from-cost)
   unfolding listOfPlan
-  weights-on = drop-part (listOfPlan plan) (plan .extents) (plan .weights ++ (plan .cuts ++ from-cost)) 2 5 refl (arrays .extents-length)
+  weights-on = drop-part (listOfPlan plan) (plan .extents) (plan .weights ++ (plan .cuts ++ from-cost)) 2 5 refl (arrays .extents-places)
 
   cuts-on : drop 12 (listOfPlan plan) ≡ plan .cuts ++ from-cost
-  cuts-on = drop-part (listOfPlan plan) (plan .weights) (plan .cuts ++ from-cost) 7 5 weights-on (arrays .weights-length)
+  cuts-on = drop-part (listOfPlan plan) (plan .weights) (plan .cuts ++ from-cost) 7 5 weights-on (arrays .weights-places)
 
   cost-on : drop 17 (listOfPlan plan) ≡ from-cost
-  cost-on = drop-part (listOfPlan plan) (plan .cuts) from-cost 12 5 cuts-on (arrays .cuts-length)
+  cost-on = drop-part (listOfPlan plan) (plan .cuts) from-cost 12 5 cuts-on (arrays .cuts-places)
 
   moduli-on : drop 19 (listOfPlan plan) ≡ from-moduli
   moduli-on = sym (drop-drop 2 17 (listOfPlan plan)) ∙ ap (drop 2) cost-on
 
   matrix-on : drop 24 (listOfPlan plan) ≡ plan .matrix
-  matrix-on = drop-part (listOfPlan plan) (plan .moduli) (plan .matrix) 19 5 moduli-on (arrays .moduli-length)
+  matrix-on = drop-part (listOfPlan plan) (plan .moduli) (plan .matrix) 19 5 moduli-on (arrays .moduli-places)
 
   pub extents-in : take 5 (drop 2 (listOfPlan plan)) ≡ plan .extents
   unfolding listOfPlan
-  extents-in = take-part (listOfPlan plan) (plan .extents) (plan .weights ++ (plan .cuts ++ from-cost)) 2 5 refl (arrays .extents-length)
+  extents-in = take-part (listOfPlan plan) (plan .extents) (plan .weights ++ (plan .cuts ++ from-cost)) 2 5 refl (arrays .extents-places)
 
   pub weights-in : take 5 (drop 7 (listOfPlan plan)) ≡ plan .weights
-  weights-in = take-part (listOfPlan plan) (plan .weights) (plan .cuts ++ from-cost) 7 5 weights-on (arrays .weights-length)
+  weights-in = take-part (listOfPlan plan) (plan .weights) (plan .cuts ++ from-cost) 7 5 weights-on (arrays .weights-places)
 
   pub cuts-in : take 5 (drop 12 (listOfPlan plan)) ≡ plan .cuts
-  cuts-in = take-part (listOfPlan plan) (plan .cuts) from-cost 12 5 cuts-on (arrays .cuts-length)
+  cuts-in = take-part (listOfPlan plan) (plan .cuts) from-cost 12 5 cuts-on (arrays .cuts-places)
 
   pub moduli-in : take 5 (drop 19 (listOfPlan plan)) ≡ plan .moduli
-  moduli-in = take-part (listOfPlan plan) (plan .moduli) (plan .matrix) 19 5 moduli-on (arrays .moduli-length)
+  moduli-in = take-part (listOfPlan plan) (plan .moduli) (plan .matrix) 19 5 moduli-on (arrays .moduli-places)
 
   pub matrix-in : take 25 (drop 24 (listOfPlan plan)) ≡ plan .matrix
-  matrix-in = ap (take 25) matrix-on ∙ take-all 25 (plan .matrix) (omega (arith, arrays .matrix-length))
+  matrix-in = ap (take 25) matrix-on ∙ take-all 25 (plan .matrix) (omega (arith, arrays .matrix-places))
 
   pub cost-low-in : getD (listOfPlan plan) 17 0 ≡ plan .cost % 4294967296
   cost-low-in = sym (getD-drop 17 (listOfPlan plan) 0 0) ∙ ap (λ (l : List ℕ). getD l 0 0) cost-on
@@ -106,7 +99,7 @@ module _ (plan : Plan) (arrays : Arrays plan) where
       → sets (sets (sets (sets (sets (sets (sets list 0 (plan .d ∷ plan .p ∷ [])) 2 (plan .extents)) 7 (plan .weights)) 12 (plan .cuts)) 17 (plan .cost % 4294967296 ∷ plan .cost / 4294967296 ∷ [])) 19 (plan .moduli)) 24 (plan .matrix)
       ≡ sets list 0 (listOfPlan plan)
   unfolding listOfPlan
-  sets-parts list = sym (simp (sets-append, arrays .extents-length, arrays .weights-length, arrays .cuts-length, arrays .moduli-length))
+  sets-parts list = sym (simp (sets-append, arrays .extents-places, arrays .weights-places, arrays .cuts-places, arrays .moduli-places))
 
 -- the parts of a plan list that the questions read
 module _ (list : List ℕ) (long : length list ≡ planPlaces) where

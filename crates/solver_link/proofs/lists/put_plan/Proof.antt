@@ -4,7 +4,8 @@ use mathlib.Core.Path.{sym, _∙_}
 use native.Mathlib.Omega.{arith}
 use Rattle.solver_link.specs.Link.{listOfPlan}
 use Rattle.solver_link.proofs.Answers.{linked-into, linked-length}
-use Rattle.solver_link.proofs.Plans.{Arrays, length-list, sets-parts}
+use Rattle.layout.proofs.Places.{Arrays}
+use Rattle.solver_link.proofs.Plans.{length-list, sets-parts}
 use Rattle.solver_link.proofs.lists.put_plan.Statement.{statement}
 use Rattle.solver_link.proofs.lists.put_plan.Tie as tie
 
@@ -57,7 +58,7 @@ put-part-requires-7 c κs =
     let s1 = s2 .before .before .before .before .before .before .before in
     let kept = s6 .put-part6 .ensures .1 ∙ s5 .put-part5 .ensures .1 ∙ s4 .put-part4 .ensures .1 ∙ s3 .put-part3 .ensures .1 ∙ s2 .put-part2 .ensures .1 ∙ s1 .put-part .ensures .1 ∙ s1 .before .before .before .if1 .left in
     let arrays : Arrays (s1 .before .before .before .before .before .args .t2) = search needs in
-    omega (arith, kept, arrays .matrix-length)
+    omega (arith, kept, arrays .matrix-places)
 
 same-length : tie.Need-same-length
 same-length c =
