@@ -16,8 +16,7 @@ use Rattle.multipartition.specs.Cuts.{Fits, Even}
 use Rattle.multipartition.specs.Plans.{Job, Layout, layoutWith, between, inShape}
 use Rattle.multipartition.specs.Jobs.{Passed, PlanFor, firstOutside, jobChecks, cheapestFor, planWith, planAnswer}
 use Rattle.multipartition.proofs.Answers.{AllPass, Small, checked-passed, checked-answered, checked-small}
-use Rattle.multipartition.proofs.Cheapest.{cheapest-even, cheapest-none}
-use Rattle.multipartition.proofs.Fitting.{cheapest-fits}
+use Rattle.multipartition.proofs.Chosen.{none-chosen, chosen-fits, chosen-even}
 use Rattle.multipartition.proofs.Plans.{layout-in-shape}
 use Rattle.multipartition.proofs.Tests.{by-cond, between-true-iff}
 
@@ -113,7 +112,7 @@ module _ (job : Job) where
       there e cuts fits even = go (cheapestFor job) refl (sym (plan-of-passed passed) ∙ e)
         where
           go : (o : Option (List ℕ)) → cheapestFor job ≡ o → planWith job o ≡ refused 5 0 → ⊥
-          go none f e = cheapest-none (job .p) (job .extents) (job .weights) cuts f fits even
+          go none f e = none-chosen job cuts f fits even
           go (some u) f e = let clash : _≡_ {A = ℕ} 0 1 = cc in omega arith
 
       back : ((cuts : List ℕ) → Fits (job .extents) cuts → Even (job .p) cuts → ⊥) → planAnswer job ≡ refused 5 0
@@ -121,7 +120,7 @@ module _ (job : Job) where
         where
           go : (o : Option (List ℕ)) → cheapestFor job ≡ o → planWith job o ≡ refused 5 0
           go none f = refl
-          go (some u) f = absurd (h u (cheapest-fits (job .p) (job .extents) (job .weights) u f) (cheapest-even (job .p) (job .extents) (job .weights) u f))
+          go (some u) f = absurd (h u (chosen-fits job u f) (chosen-even job u f))
 
   -- a refusal has a number from 1 on, and one of two digits
   pub plan-small : Small (1 + length (job .extents)) (planAnswer job)

@@ -20,6 +20,7 @@ pub mod Neighbours
 pub mod Fitting
 pub mod Minimal
 pub mod Rivals
+pub mod Chosen
 pub mod Faces
 pub mod Plans
 pub mod Jobs

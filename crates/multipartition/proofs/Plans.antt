@@ -21,12 +21,12 @@ use Rattle.multipartition.specs.Plans.{Job, Layout, layoutWith, tilesOf,
 use Rattle.multipartition.proofs.Tests.{and-iff, all-iff, leb-iff, ltb-iff, eqb-iff, between-true-iff}
 use Rattle.multipartition.proofs.MixedRadix.{Positive}
 use Rattle.multipartition.proofs.Tiles.{positive-of-product}
-use Rattle.multipartition.proofs.Cheapest.{cheapest-even}
 use Rattle.multipartition.proofs.Moduli.{length-moduli, moduli-positive, moduli-product}
 use Rattle.multipartition.proofs.Matrix.{matrix-entry-below}
 use Rattle.multipartition.proofs.Neighbours.{neighbour-owns, neighbour-returns, neighbour-injective}
-use Rattle.multipartition.proofs.Fitting.{cheapest-fits, fits-length, fits-positive, fits-le-extent}
-use Rattle.multipartition.proofs.Minimal.{positive-at, cut-le, tiles-le}
+use Rattle.multipartition.proofs.Fitting.{fits-positive, fits-le-extent}
+use Rattle.multipartition.proofs.Minimal.{positive-at}
+use Rattle.multipartition.proofs.Chosen.{chosen-fits, chosen-length, chosen-even, chosen-cut-le, chosen-tiles-le}
 
 -- ---- in shape
 
@@ -132,13 +132,13 @@ layout-in-shape job cuts passed e =
       cut-range = λ k l. (
         positive-at cuts (fits-positive (job .extents) cuts fits) k (inside k l),
         fits-le-extent (job .extents) cuts fits k (inside k l),
-        cut-le (job .p) (job .extents) (job .weights) cuts e (range .p-low) (range .p-high) k (inside k l),
+        chosen-cut-le job cuts e (range .p-low) (range .p-high) k (inside k l),
       );
-      tiles-high = tiles-le (job .p) (job .extents) (job .weights) cuts e (range .p-low) (range .p-high);
+      tiles-high = chosen-tiles-le job cuts e (range .p-low) (range .p-high);
       modulus-low = λ i l.
           positive-at (moduliOf (job .p) cuts) (moduli-positive (job .p) cuts (range .p-low)) i
           (subst⁻¹ (λ (n : ℕ). i < n) (length-moduli (job .p) cuts) (inside i l));
-      moduli-product = moduli-product (job .p) cuts (omega (arith, same-length, range .d-low)) (cheapest-even (job .p) (job .extents) (job .weights) cuts e);
+      moduli-product = moduli-product (job .p) cuts (omega (arith, same-length, range .d-low)) (chosen-even job cuts e);
       entry-below = λ i j l m. matrix-entry-below (job .p) cuts (range .p-low) i j (inside i l);
     })
   where
@@ -146,10 +146,10 @@ layout-in-shape job cuts passed e =
     range = passed .range
 
     fits : Fits (job .extents) cuts
-    fits = cheapest-fits (job .p) (job .extents) (job .weights) cuts e
+    fits = chosen-fits job cuts e
 
     same-length : length cuts ≡ length (job .extents)
-    same-length = fits-length (job .extents) cuts fits
+    same-length = chosen-length job cuts e
 
     extent : (k : ℕ) → k < job .d → k < length (job .extents)
     extent k l = subst⁻¹ (λ (n : ℕ). k < n) (passed .extents-many) l

@@ -15,7 +15,7 @@ use Rattle.multipartition.specs.Plans.{Job, Layout, jobWith, inShape}
 use Rattle.multipartition.specs.Jobs.{PlanFor, planAnswer}
 use Rattle.multipartition.proofs.Answers.{Small}
 use Rattle.multipartition.proofs.Jobs.{plan-answered, plan-in-shape, plan-small}
-use Rattle.multipartition.proofs.Minimal.{cut-le}
+use Rattle.multipartition.proofs.Chosen.{chosen-cut-le}
 use Rattle.layout.specs.Plans.{layoutOf, planOf}
 use Rattle.layout.specs.Sized.{Sized}
 use Rattle.layout.proofs.Plans.{layout-of-plan}
@@ -83,7 +83,7 @@ length-plan job plan small e =
     cut-high : (i : ℕ) → getD (plan .cuts) i 0 ≤ 4096
     cut-high i =
         ⊎-elim
-        (λ l. cut-le (job .p) (job .extents) (job .weights) (plan .cuts) (made .cuts-are) (made .passed .range .p-low) (made .passed .range .p-high) i l)
+        (λ l. chosen-cut-le job (plan .cuts) (made .cuts-are) (made .passed .range .p-low) (made .passed .range .p-high) i l)
         (λ l. omega (arith, List·getD-eq-default (plan .cuts) 0 l))
         (lt-or-le i (length (plan .cuts)))
 

@@ -6,7 +6,7 @@ use lib.ListN.{length}
 use Rattle.multipartition.specs.Answers.{Answer, answered, refused}
 use Rattle.multipartition.specs.Plans.{Job, Layout}
 use Rattle.multipartition.specs.Jobs.{planAnswer}
-use Rattle.multipartition.proofs.Fitting.{cheapest-fits, fits-length}
+use Rattle.multipartition.proofs.Chosen.{chosen-length}
 use Rattle.multipartition.proofs.Answers.{Small}
 use Rattle.multipartition.proofs.Jobs.{plan-answered, plan-small}
 use Rattle.layout.specs.Sized.{Sized}
@@ -27,7 +27,6 @@ pub plan-sized : (job : Job) (plan : Layout) → planAnswer job ≡ answered pla
 plan-sized job plan e =
     let made = plan-answered job plan e in
     let passed = made .passed in
-    let fits = cheapest-fits (job .p) (job .extents) (job .weights) (plan .cuts) (made .cuts-are) in
     subst⁻¹ Sized (made .plan-is)
     (layout-with-sized job (plan .cuts) (omega (arith, passed .range .d-high, passed .extents-many)) (passed .extents-many) (passed .weights-many)
-    (fits-length (job .extents) (plan .cuts) fits ∙ passed .extents-many))
+    (chosen-length job (plan .cuts) (made .cuts-are) ∙ passed .extents-many))

@@ -21,17 +21,14 @@ use Rattle.multipartition.specs.Questions.{ownerAnswer, neighbourAnswer}
 use Rattle.multipartition.specs.Rivals.{held, Balanced}
 use Rattle.multipartition.specs.Tiles.{Inside, oneStepOn}
 use Rattle.multipartition.proofs.BothWays.{owner-answered, neighbour-answered}
-use Rattle.multipartition.proofs.Cheapest.{cheapest-even}
+use Rattle.multipartition.proofs.Chosen.{balanced-iff-chosen, chosen-fits, chosen-length, chosen-even, chosen-minimal, chosen-no-dearer}
 use Rattle.multipartition.proofs.Faces.{faces-differ}
-use Rattle.multipartition.proofs.Fitting.{cheapest-fits, fits-length}
 use Rattle.multipartition.proofs.GridSums.{total-ext, held-total}
 use Rattle.multipartition.proofs.Jobs.{plan-answered, plan-in-shape, plan-of-passed}
-use Rattle.multipartition.proofs.Minimal.{cheapest-minimal}
 use Rattle.multipartition.proofs.Neighbours.{neighbour-owns}
 use Rattle.multipartition.proofs.Owners.{owner-below, even-owners, share-exact}
 use Rattle.multipartition.proofs.Plans.{in-shape-moduli-positive}
 use Rattle.multipartition.proofs.Tests.{between-true-iff}
-use Rattle.multipartition.proofs.Rivals.{balanced-iff-cheapest, cheapest-no-dearer}
 use Rattle.multipartition.proofs.Tiles.{one-step-on-inside}
 use Rattle.layout.specs.declared.Plan.{Plan}
 use Rattle.layout.specs.Plans.{layoutOf, planOf}
@@ -79,7 +76,7 @@ module _ (job : Job) (plan : Plan) (e : planAnswer job ≡ answered (layoutOf pl
       → held (cutsOf plan) (ownerIn plan) k s q ≡ product (cutsOf plan) / (getD (cutsOf plan) k 0 * job .p)
   shares-are k s q l m o =
       held-ext (cutsOf plan) (ownerIn plan) (ownerOf (job .p) (cutsOf plan)) k s q owner-of
-      ∙ even-owners (job .p) (cutsOf plan) some-processor (cheapest-even (job .p) (job .extents) (job .weights) (cutsOf plan) (made .cuts-are)) k s q l m o
+      ∙ even-owners (job .p) (cutsOf plan) some-processor (chosen-even job (cutsOf plan) (made .cuts-are)) k s q l m o
 
   cost-is : plan .cost ≡ costOf (job .weights) (cutsOf plan)
   unfolding layoutOf
@@ -90,7 +87,7 @@ module _ (job : Job) (plan : Plan) (e : planAnswer job ≡ answered (layoutOf pl
   d-is =
       ap (λ (l : Layout). l .d) (made .plan-is)
       ∙ sym (made .passed .extents-many)
-      ∙ sym (fits-length (job .extents) (cutsOf plan) (cheapest-fits (job .p) (job .extents) (job .weights) (cutsOf plan) (made .cuts-are)))
+      ∙ sym (chosen-length job (cutsOf plan) (made .cuts-are))
 
   p-is : layoutOf plan .p ≡ job .p
   p-is = ap (λ (l : Layout). l .p) (made .plan-is)
@@ -129,17 +126,17 @@ module _ (job : Job) (plan : Plan) (e : planAnswer job ≡ answered (layoutOf pl
   ours = record {
     holds-job = ap jobOf (made .plan-is);
     in-shape = shaped;
-    fits = cheapest-fits (job .p) (job .extents) (job .weights) (cutsOf plan) (made .cuts-are);
+    fits = chosen-fits job (cutsOf plan) (made .cuts-are);
     owner-answered = λ x w. owner-answers x w ∙ ap answered (sym (owner-at x w));
     owner-below = λ x w. subst⁻¹ (λ (n : ℕ). n < job .p) (owner-of x w) (owner-below (job .p) (cutsOf plan) x some-processor);
     balanced = balanced-is;
     shares = shares-are;
-    share-exact = share-exact (job .p) (cutsOf plan) (cheapest-even (job .p) (job .extents) (job .weights) (cutsOf plan) (made .cuts-are));
+    share-exact = share-exact (job .p) (cutsOf plan) (chosen-even job (cutsOf plan) (made .cuts-are));
     cost-summed = cost-is;
     cheapest-of-all = λ rival balanced.
-        subst⁻¹ (λ (n : ℕ). n ≤ costOf (job .weights) (rival .cuts)) cost-is (cheapest-no-dearer (job .p) (job .extents) some-processor (job .weights) (cutsOf plan) (made .cuts-are) rival balanced);
+        subst⁻¹ (λ (n : ℕ). n ≤ costOf (job .weights) (rival .cuts)) cost-is (chosen-no-dearer job (cutsOf plan) (made .cuts-are) some-processor rival balanced);
     faces-differ = λ x y w v face same-owner.
-        faces-differ (job .p) (cutsOf plan) some-processor (cheapest-minimal (job .p) (job .extents) (job .weights) (cutsOf plan) (made .cuts-are)) x y w v face
+        faces-differ (job .p) (cutsOf plan) some-processor (chosen-minimal job (cutsOf plan) (made .cuts-are)) x y w v face
         (sym (owner-of x w) ∙ same-owner ∙ owner-of y v);
     one-neighbour = neighbour-is;
     one-owner = one-owner-is;
@@ -157,7 +154,7 @@ demand-3 job passed = go (cheapestFor job) refl
         (record {
           accepts = (
             (λ (z : _≡_ {A = ℕ} 5 0). absurd (omega arith)),
-            λ rival. absurd (Option·none-ne-some _ (sym e ∙ balanced-iff-cheapest (job .p) (job .extents) (passed .range .p-low) (job .weights) .0 rival .1)),
+            λ rival. absurd (Option·none-ne-some _ (sym e ∙ balanced-iff-chosen job (passed .range .p-low) .0 rival .1)),
           );
           refuses = inr refl;
           ours = λ (z : _≡_ {A = ℕ} 5 0). absurd (omega arith);
@@ -165,13 +162,13 @@ demand-3 job passed = go (cheapestFor job) refl
     go (some cuts) e =
         let answers : planAnswer job ≡ answered (layoutWith job cuts) =
         plan-of-passed job passed ∙ ap (planWith job) e in
-        let many : length cuts ≡ job .d = fits-length (job .extents) cuts (cheapest-fits (job .p) (job .extents) (job .weights) cuts e) ∙ passed .extents-many in
+        let many : length cuts ≡ job .d = chosen-length job cuts e ∙ passed .extents-many in
         let back : layoutOf (planOf (layoutWith job cuts)) ≡ layoutWith job cuts =
         layout-of-plan (layoutWith job cuts)
         (layout-with-sized job cuts (omega (arith, passed .range .d-high, passed .extents-many)) (passed .extents-many) (passed .weights-many) many) in
         subst⁻¹ (λ (a : Answer Layout). Demand3 job (plannedOf a)) answers
         (record {
-          accepts = ((λ z. balanced-iff-cheapest (job .p) (job .extents) (passed .range .p-low) (job .weights) .1 (cuts, e)), λ rival. refl);
+          accepts = ((λ z. balanced-iff-chosen job (passed .range .p-low) .1 (cuts, e)), λ rival. refl);
           refuses = inl refl;
           ours = λ z. ours job (planOf (layoutWith job cuts)) (answers ∙ ap answered (sym back));
         })
