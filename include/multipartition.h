@@ -73,11 +73,12 @@ enum {
 /* A position is a list of d coordinates, that of dimension 1 first; each is a slab of its dimension. The answer to a step is longer by one. */
 #define MULTIPARTITION_STEP_LENGTH(dimensions) (MULTIPARTITION_STEP_POSITION + (dimensions))
 
-/* The bytes of stack that must be left where a call is made, on x86-64: measured, with a quarter or more to spare. */
+/* The bytes of stack that must be left where a call is made, on x86-64: measured, with a quarter or more to spare, also for the first call of a
+ * process, in which the dynamic linker looks up memcpy and memset on the same stack. */
 enum {
-    MULTIPARTITION_PLAN_STACK = 65536,
-    MULTIPARTITION_CHAINS_STACK = 8192,
-    MULTIPARTITION_QUESTION_STACK = 4096 /* all other calls */
+    MULTIPARTITION_PLAN_STACK = 73728,
+    MULTIPARTITION_CHAINS_STACK = 12288,
+    MULTIPARTITION_QUESTION_STACK = 8192 /* all other calls */
 };
 
 /* What a call returns: 0, or a refusal's number in the lower 32 bits and its place in the upper 32. */

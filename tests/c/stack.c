@@ -1,6 +1,9 @@
 /* Each call in a thread that has just the stack that the header states. A thread's own records and the frames of the C library take a part of its
  * stack that differs from system to system; so the thread gets THREAD bytes more, uses its stack up until the stated bytes are left, and makes the
- * call there. What this program itself puts on the stack from there on counts as the call's. Below the stack lies memory that may not be touched. */
+ * call there. What this program itself puts on the stack from there on counts as the call's. Below the stack lies memory that may not be touched.
+ *
+ * The dynamic linker looks up memcpy and memset on the caller's stack when they are first called. With LD_BIND_NOT=1 in the environment, and linked
+ * with -z lazy, it does so at every call, so that each call is measured as if it were the first of its process. */
 #define _DEFAULT_SOURCE
 #include <inttypes.h>
 #include <pthread.h>

@@ -1,20 +1,22 @@
 #!/bin/sh
 # Shows that the tests in C can fail: each header here is wrong in one name or in two, and one of the tests must find it.
-# Argument: the archive that the tests link.
+# Arguments: the archive that the tests link, and the words that they are compiled with.
 set -eu
 cd "$(dirname "$0")/../.."
 archive=$1
+shift
 header=include/multipartition.h
 folder=$(mktemp -d)
 trap 'rm -rf "$folder"' EXIT
+printf '%s\n' "$@" >"$folder/words"
 tried=0
 
-# Do all tests pass with the header in the folder?
+# Do all tests compile and pass with the header in the folder?
 pass() {
     for program in places refusals stack; do
-        cc -std=c99 -pthread -I"$folder" "tests/c/$program.c" "$archive" -o "$folder/$program" || exit 1
+        cc "@$folder/words" -O0 -I"$folder" "tests/c/$program.c" "$archive" -o "$folder/$program" >"$folder/log" 2>&1 || return 1
         # A shell of its own, which tells the log of a program that the machine stopped.
-        sh -c 'ulimit -c 0; "$1"; exit $?' sh "$folder/$program" >"$folder/log" 2>&1 || return 1
+        LD_BIND_NOT=1 sh -c 'ulimit -c 0; "$1"; exit $?' sh "$folder/$program" >"$folder/log" 2>&1 || return 1
     done
 }
 
