@@ -6,6 +6,19 @@
 
 #include "multipartition.h"
 
+/* Each call once more: a header that declares another type for one does not compile. */
+uint64_t multipartition_plan(uint32_t, uint32_t, const uint32_t *, size_t, const uint32_t *, size_t, uint32_t *, size_t);
+uint64_t multipartition_owner(const uint32_t *, size_t, const uint32_t *, size_t, uint32_t *, size_t);
+uint64_t multipartition_neighbour(const uint32_t *, size_t, uint32_t, uint32_t, uint32_t, uint32_t *, size_t);
+uint64_t multipartition_slab(const uint32_t *, size_t, uint32_t, uint32_t, uint32_t *, size_t);
+uint64_t multipartition_slab_of(const uint32_t *, size_t, uint32_t, uint32_t, uint32_t *, size_t);
+uint64_t multipartition_tile_number(const uint32_t *, size_t, const uint32_t *, size_t, uint32_t *, size_t);
+uint64_t multipartition_tile_position(const uint32_t *, size_t, uint32_t, uint32_t *, size_t);
+uint64_t multipartition_step(const uint32_t *, size_t, const uint32_t *, size_t, uint32_t, uint32_t, uint32_t *, size_t);
+uint64_t multipartition_chains(const uint32_t *, size_t, uint32_t *, size_t, uint32_t *, size_t);
+static enum multipartition_number multipartition_number_of(uint64_t);
+static uint32_t multipartition_place_of(uint64_t);
+
 enum { D = 5, ROOM = 99, SPARE = 4000000 };
 
 #define EXPECT(found, figure) expect(#found, found, figure)
@@ -141,12 +154,40 @@ static void chain_lists(void)
         expect("a next higher tile", nexts[t], higher[t]);
 }
 
+/* The length is one more than d whatever stands around it and in it, and the answer has so many places for another d too. */
+static void step_lengths(void)
+{
+    const size_t n = MULTIPARTITION_PLAN_LENGTH;
+    const uint32_t eights[3] = {8, 8, 8}, ones[3] = {1, 1, 1}, position[3] = {0, 1, 0}, up[3] = {0, 1, 1};
+    const int d = D;
+    uint32_t plan[ROOM], answer[ROOM];
+    EXPECT(MULTIPARTITION_STEP_LENGTH(ones[0] ? d : 0), 6);
+    EXPECT(2 * MULTIPARTITION_STEP_LENGTH(d), 12);
+    EXPECT(multipartition_plan(4, 3, eights, 3, ones, 3, ready(plan), n), 0);
+    EXPECT(multipartition_step(plan, n, position, 3, 3, 1, ready(answer), MULTIPARTITION_STEP_LENGTH(3)), 0);
+    EXPECT(answer[MULTIPARTITION_STEP_INSIDE], 1);
+    for (int k = 0; k < 3; k++)
+        expect("a coordinate of three", answer[MULTIPARTITION_STEP_POSITION + k], up[k]);
+}
+
+/* The highest place that a refusal has. */
+static void refusal_place(void)
+{
+    const uint32_t last_bad[D] = {8, 8, 8, 8, 0};
+    uint32_t plan[ROOM];
+    const uint64_t returned = multipartition_plan(4, D, last_bad, D, weights, D, ready(plan), MULTIPARTITION_PLAN_LENGTH);
+    EXPECT(multipartition_number_of(returned), MULTIPARTITION_BAD_EXTENT);
+    EXPECT(multipartition_place_of(returned), 5);
+}
+
 int main(void)
 {
     uint32_t plan[ROOM];
     plan_places(plan);
     answer_places(plan);
     step_places(plan);
+    step_lengths();
+    refusal_place();
     plan_by_hand();
     chain_lists();
     if (failures == 0)

@@ -80,5 +80,14 @@ swap BAD_DIMENSION OUT_OF_RANGE
 wrong 'a step has one place more' 's/\(STEP_LENGTH(dimensions)\) (/\1 (1 + /'
 wrong 'number from the upper half' 's/returned & UINT32_MAX/returned >> 32/'
 wrong 'place from the lower half' 's/returned >> 32/returned/'
+wrong 'place from two bits' 's/(uint32_t)(returned >> 32)/(uint32_t)(returned >> 32 \& 3)/'
+wrong 'the sum of a step without parentheses' 's/\(STEP_LENGTH(dimensions)\) (\(.*\))$/\1 \2/'
+wrong 'the dimensions of a step without parentheses' 's/STEP_POSITION + (dimensions)/STEP_POSITION + dimensions/'
+wrong 'a step always has six places' 's/STEP_POSITION + (dimensions)/STEP_POSITION + 0 * (dimensions) + 5/'
+wrong 'answer lengths of 32 bits' 's/size_t answer_length/uint32_t answer_length/'
+wrong 'plan lengths with a sign' 's/size_t plan_length/int plan_length/'
+for call in plan owner neighbour slab slab_of tile_number tile_position step chains; do
+    wrong "$call returns 32 bits" "s/^uint64_t \(multipartition_$call(\)/uint32_t \1/"
+done
 
 echo "$tried wrong headers are found"
