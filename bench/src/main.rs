@@ -94,21 +94,20 @@ fn contest_of_plans(
     )
 }
 
-/// The mean over every p, with all weights 1 and with others.
+/// The mean over every p: with all weights 1 and with others together, which has the target, and
+/// each by itself.
 fn plans(repeats: usize) {
     for (d, target) in [(2, 4.0), (3, 1.4), (4, 0.5), (5, 0.15)] {
-        for (kind, jobs) in [
-            ("weights 1", jobs::weights_one(d)),
-            ("other weights", jobs::other_weights(1, d)),
+        let ones = jobs::weights_one(d);
+        let others = jobs::other_weights(1, d);
+        let both: Vec<Job> = ones.iter().chain(&others).cloned().collect();
+        for (kind, target, jobs) in [
+            ("", Some(target), both),
+            (", weights 1", None, ones),
+            (", other weights", None, others),
         ] {
-            let what = format!("planning, d = {d}, {kind}");
-            print_line(&contest_of_plans(
-                &what,
-                Some(target),
-                repeats,
-                &jobs,
-                RIVAL.plan,
-            ));
+            let what = format!("planning, d = {d}{kind}");
+            print_line(&contest_of_plans(&what, target, repeats, &jobs, RIVAL.plan));
         }
     }
 }
