@@ -103,7 +103,8 @@ fn read_input(input: &mut [u8]) -> Input {
     Input::Bytes(done)
 }
 
-// A program has no exit status: where a read or a write fails, it says so on standard error, and where a read fails it prints nothing.
+// A program has no exit status: where a read or a write fails, it says so on standard error, and where a read fails it prints nothing. Only a reader
+// that has left ends it without a word, by SIGPIPE; run-plan, which reads all of the answer itself, sees to that.
 fn main() {
     let mut input = [0u8; READ];
     let got = read_input(&mut input);
