@@ -39,9 +39,6 @@ all-add-one n test = rw add-one
 pub all-at : (n : ℕ) (test : ℕ → Bool) → allBelow n test ≡ true → (k : ℕ) → k < n → test k ≡ true
 all-at n test = allBelow-true-iff n test .0
 
-pub all-of : (n : ℕ) (test : ℕ → Bool) → ((k : ℕ) → k < n → test k ≡ true) → allBelow n test ≡ true
-all-of n test = allBelow-true-iff n test .1
-
 pub all-ext : (n : ℕ) (f g : ℕ → Bool) → ((k : ℕ) → k < n → f k ≡ g k) → allBelow n f ≡ allBelow n g
 unfolding allBelow
 all-ext zero f g h = refl
@@ -58,9 +55,6 @@ all-first zero test = first-alone (test 0)
 all-first (suc n) test = rw (all-first n test) (and-assoc (test 0) (allBelow n (λ k. test (suc k))) (test (suc n)))
 
 -- ---- products
-
-pub product-none : (xs : List ℕ) → product (take 0 xs) ≡ 1
-product-none xs = refl
 
 pub product-add-one : (xs : List ℕ) (k : ℕ) → k < length xs → product (take (k + 1) xs) ≡ product (take k xs) * getD xs k 0
 product-add-one xs k h = rw (add-one, take-suc xs k 0 h, product-append) (omega arith)

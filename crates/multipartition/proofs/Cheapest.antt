@@ -94,6 +94,7 @@ in-startingWith from (suc n) xs c v low high i =
     (⊎-elim (λ (q : from ≡ c). inl (subst (λ (j : ℕ). In (j ∷ v) (map (λ x. from ∷ x) xs)) q (in-map-cons from v xs i)))
     (λ l. inr (in-startingWith (suc from) n xs c v l (omega arith) i)) (eq-or-lt-of-le low))
 
+-- the enumeration has the cuts within `most`
 in-cutsWithin : (most v : List ℕ) → Within most v → In v (cutsWithin most)
 unfolding cutsWithin
 in-cutsWithin [] [] h = inl refl
@@ -101,6 +102,7 @@ in-cutsWithin [] (c ∷ v) h = absurd h
 in-cutsWithin (n ∷ most) [] h = absurd h
 in-cutsWithin (n ∷ most) (c ∷ v) h = in-startingWith 1 n (cutsWithin most) c v (h .0) (omega arith) (in-cutsWithin most v (h .2))
 
+-- and no others
 within-of-in : (most v : List ℕ) → In v (cutsWithin most) → Within most v
 unfolding cutsWithin
 within-of-in [] v (inl q) = subst⁻¹ (λ (z : List ℕ). Within [] z) q tt
@@ -110,10 +112,6 @@ within-of-in (n ∷ most) v h = first v (starts-of-in 1 n (cutsWithin most) v h)
     first : (v : List ℕ) → Starts 1 n (cutsWithin most) v → ((u : List ℕ) → In u (cutsWithin most) → Within most u) → Within (n ∷ most) v
     first [] j rest = absurd j
     first (c ∷ v) j rest = (j .0, omega arith, rest v (j .2))
-
--- the enumeration has the cuts within `most`, and no others
-pub cutsWithin-in : (most v : List ℕ) → In v (cutsWithin most) ↔ Within most v
-cutsWithin-in most v = (within-of-in most v, in-cutsWithin most v)
 
 -- those that pass a test
 pub those-in : (test : List ℕ → Bool) (v : List ℕ) (xs : List (List ℕ)) → In v (those test xs) ↔ (In v xs × (test v ≡ true))

@@ -36,9 +36,6 @@ test-of-inside [] (i ∷ position) h = absurd h
 test-of-inside (b ∷ cuts) [] h = absurd h
 test-of-inside (b ∷ cuts) (i ∷ position) h = rw (lt-ltb i b (h .0), test-of-inside cuts position (h .1))
 
-pub is-inside-iff : (cuts position : List ℕ) → (isInside cuts position ≡ true) ↔ Inside cuts position
-is-inside-iff cuts position = (inside-of-test cuts position, test-of-inside cuts position)
-
 -- a position has a coordinate for each cut, below it
 pub inside-length : (cuts position : List ℕ) → Inside cuts position → length position ≡ length cuts
 unfolding Inside
