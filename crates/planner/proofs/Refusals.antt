@@ -30,8 +30,8 @@ outside-range low high n = go (decLe low n) (decLe n high)
     go (no a) b = let m : n < low = omega arith in rw (lt-ltb n low m, lt-leb low n m)
 
 -- a number that is not out of a range
-pub within : (low high n : ℕ) → outsideRange low high n ≡ false → (low ≤ n) × (n ≤ high)
-within low high n e =
+pub in-range-of-test : (low high n : ℕ) → outsideRange low high n ≡ false → (low ≤ n) × (n ≤ high)
+in-range-of-test low high n e =
     let both = or-false (ltb n low) (ltb high n) e in
     (ltb-false n low (both .0), ltb-false high n (both .1))
 

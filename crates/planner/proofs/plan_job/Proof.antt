@@ -8,7 +8,7 @@ use Rattle.multipartition.specs.Plans.{jobWith}
 use Rattle.multipartition.specs.Jobs.{planWith}
 use Rattle.multipartition.proofs.Jobs.{plan-of-passed}
 use Rattle.planner.specs.Planned.{plannedOf}
-use Rattle.planner.proofs.Refusals.{within, lengths, refused-1, refused-2, refused-3, refused-4, passed}
+use Rattle.planner.proofs.Refusals.{in-range-of-test, lengths, refused-1, refused-2, refused-3, refused-4, passed}
 use borrow.Author.Needs.{needs}
 use Rattle.planner.proofs.plan_job.Statement.{statement}
 use Rattle.planner.proofs.plan_job.Tie as tie
@@ -43,7 +43,7 @@ returns-3 c =
 first-outside-requires : tie.Need-first-outside-requires
 first-outside-requires c κs =
     let start = c .before .before .before .before .before in
-    omega (arith, within 2 5 (start .args .d) (c .before .before .if1 .left) .1, lengths (start .args .d) (start .args .extents .now) (start .args .weights .now) (c .if3 .left) .0)
+    omega (arith, in-range-of-test 2 5 (start .args .d) (c .before .before .if1 .left) .1, lengths (start .args .d) (start .args .extents .now) (start .args .weights .now) (c .if3 .left) .0)
 
 refused-requires-4 : tie.Need-refused-requires-4
 refused-requires-4 c κs = search needs
