@@ -1,5 +1,5 @@
-// The printer of the plan, into a lent list of bytes. The private functions `put_..` write from a place on and answer the place after it; a
-// byte for which the list has no place is left out. The calls hand over whole texts.
+// The printer of the plan, into a lent list of bytes. The private functions `put_..` write from place `at` on, or from the front where they
+// have no `at`, and answer the place after what they wrote; a byte for which the list has no place is left out. The calls hand over whole texts.
 use layout::Plan;
 ghost use mathlib.Core.Bool.{true};
 ghost use mathlib.Core.List.{[], _∷_, _++_};
@@ -33,7 +33,7 @@ const NONE: [u8; 5] = *b"none\n";
 
 const REFUSED: [u8; 8] = *b"refused ";
 
-// The most bytes that a plan has, and a refusal (proofs/Lengths).
+// No plan has more bytes, and no refusal (proofs/Lengths).
 pub const LONGEST_PLAN: usize = 102667;
 
 const LONGEST_REFUSED: usize = 50;
