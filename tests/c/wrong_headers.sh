@@ -1,5 +1,5 @@
 #!/bin/sh
-# Shows that the tests in C can fail: each header here is wrong in one name or in two, and one of the tests must find it.
+# Shows that the tests in C can fail: each header here is wrong in a name, a type or a formula, and one of the tests must fail or not compile.
 # Arguments: the archive that the tests link, and the words that they are compiled with.
 set -eu
 cd "$(dirname "$0")/../.."

@@ -207,7 +207,7 @@ fn put_five(list: &mut [u32], at: usize, a: u32, b: u32, c: u32, d: u32, e: u32)
     put_place(list, at + 4, e);
 }
 
-// A position's coordinates into an answer list, likewise.
+// A position's coordinates into an answer list; 9 if the list has another length.
 pub fn put_position(answer: &mut [u32], position: Position) -> u64
     requires { ⌜ position .d ≤ 5 ⌝ }
     ensures { λ r. ⌜ Linked (into (length (now (answer .entry))) (coordinates position)) (now (answer .entry)) r (now (answer .exit)) ⌝ }
@@ -221,7 +221,7 @@ pub fn put_position(answer: &mut [u32], position: Position) -> u64
     0
 }
 
-// A number and a position's coordinates into an answer list, likewise.
+// A number and a position's coordinates into an answer list, with the same refusal.
 pub fn put_step(answer: &mut [u32], inside: u32, position: Position) -> u64
     requires { ⌜ position .d ≤ 5 ⌝ }
     ensures { λ r. ⌜ Linked (into (length (now (answer .entry))) (inside ∷ coordinates position)) (now (answer .entry)) r (now (answer .exit)) ⌝ }
@@ -236,7 +236,7 @@ pub fn put_step(answer: &mut [u32], inside: u32, position: Position) -> u64
     0
 }
 
-// A plan into an answer list, likewise. A planned d fits 32 bits.
+// A plan into an answer list, with the same refusal. A planned d fits 32 bits.
 pub fn put_plan(list: &mut [u32], plan: Plan) -> u64
     requires { ⌜ plan .d ≤ 5 ⌝ }
     ensures { λ r. ⌜ Linked (into (length (now (list .entry))) (listOfPlan plan)) (now (list .entry)) r (now (list .exit)) ⌝ }
