@@ -3,14 +3,12 @@
 use mathlib.Core.Path.{_≡_, refl, ap}
 use mathlib.Core.Logic.{_↔_}
 use mathlib.Core.List.{List, [], _∷_}
-use mathlib.Core.Option.{some}
 use Prim.Native.Nat.{ℕ, zero, suc, _≤_, _<_}
 use native.Mathlib.Nat.{not-suc-le-zero, le-of-suc-le-suc, le-trans}
 use lib.ListN.{length, getD}
-use Rattle.multipartition.specs.Cuts.{Within, Fits, cheapest}
+use Rattle.multipartition.specs.Cuts.{Within, Fits}
 use Rattle.multipartition.proofs.MixedRadix.{Positive}
 use Rattle.multipartition.proofs.Order.{AtMost}
-use Rattle.multipartition.proofs.Cheapest.{cheapest-within}
 
 pub within-length : (most cuts : List ℕ) → Within most cuts → length cuts ≡ length most
 within-length [] [] h = refl
@@ -45,9 +43,6 @@ within-of-atMost (n ∷ most) (b ∷ cuts) (c ∷ lower) h m z = (z .0, le-trans
 
 pub fits-iff-within : (extents cuts : List ℕ) → Fits extents cuts ↔ Within extents cuts
 fits-iff-within extents cuts = ((λ h. h), λ h. h)
-
-pub cheapest-fits : (p : ℕ) (extents weights cuts : List ℕ) → cheapest p extents weights ≡ some cuts → Fits extents cuts
-cheapest-fits p extents weights cuts e = fits-iff-within extents cuts .1 (cheapest-within p extents weights cuts e)
 
 pub fits-length : (extents cuts : List ℕ) → Fits extents cuts → length cuts ≡ length extents
 fits-length extents cuts fits = within-length extents cuts (fits-iff-within extents cuts .0 fits)

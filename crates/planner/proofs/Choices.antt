@@ -11,7 +11,7 @@ use Rattle.multipartition.specs.Answers.{refused}
 use Rattle.multipartition.specs.Cuts.{costOf, cheapest}
 use Rattle.multipartition.specs.Plans.{jobWith, layoutWith}
 use Rattle.multipartition.specs.Jobs.{planWith}
-use Rattle.multipartition.proofs.Fitting.{cheapest-fits, fits-length}
+use Rattle.multipartition.proofs.Chosen.{chosen-length}
 use Rattle.layout.specs.declared.Plan.{Plan}
 use Rattle.layout.specs.Plans.{five, planOf}
 use Rattle.matrix.proofs.Padding.{at-padded, is-five}
@@ -45,7 +45,7 @@ module _ (p : ℕ) (extents weights : List ℕ) (cost : ℕ) (cuts : List ℕ) w
       }
         where
           many : length u ≡ length extents
-          many = fits-length extents u (cheapest-fits p extents weights u e)
+          many = chosen-length (jobWith p (length extents) extents weights) u e
 
           few : length u ≤ 5
           few = omega (arith, many, job .d-high)
