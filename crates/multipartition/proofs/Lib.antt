@@ -21,6 +21,7 @@ pub mod Fitting
 pub mod Minimal
 pub mod Rivals
 pub mod Chosen
+pub mod Costs
 pub mod Faces
 pub mod Plans
 pub mod Jobs

@@ -1,16 +1,28 @@
 -- The order among cuts is a total order, and the test `precedes` decides it. Others use the order by the laws that begin with `precedes`, so that
--- only this file depends on what decides among equal costs.
+-- only this file depends on what decides among equal costs, and the cost of a dimension by those that begin with `cutCost`.
 use mathlib.Core.Path.{_≡_, refl, _∙_, ap, ap₂}
 use mathlib.Core.Logic.{_⊎_, inl, inr, ⊎-elim, _↔_}
 use mathlib.Core.Bool.{Bool, true, false, _&&_, _||_}
 use mathlib.Core.List.{List, [], _∷_}
 use Prim.Native.Nat.{ℕ, _+_, _*_, _≤_, _<_}
-use native.Mathlib.Nat.{le-refl, le-of-lt, mul-le-mul-right, eq-or-lt-of-le}
+use native.Mathlib.Nat.{le-refl, le-of-lt, mul-le-mul, mul-le-mul-right, eq-or-lt-of-le}
 use native.Mathlib.Omega.{arith}
 use lib.Dec.{ltb, eqb}
 use borrow.Author.Tests.{ltb-true, ltb-false, eqb-true, lt-ltb, eq-eqb}
-use Rattle.multipartition.specs.Cuts.{costOf, NotLater, notLater, Precedes, precedes}
+use Rattle.multipartition.specs.Cuts.{cutCost, costOf, NotLater, notLater, Precedes, precedes}
 use Rattle.multipartition.proofs.Tests.{and-true-iff, or-true-iff}
+
+-- ---- the cost of a dimension
+
+-- a larger cut costs no less
+pub cutCost-mono : (b c w : ℕ) → b ≤ c → cutCost b w ≤ cutCost c w
+unfolding cutCost
+cutCost-mono b c w h = mul-le-mul-right w (omega (arith, h))
+
+-- nor does it cost more than bounds of its cut and its weight, multiplied
+pub cutCost-le : (b w c v : ℕ) → b ≤ c → w ≤ v → cutCost b w ≤ c * v
+unfolding cutCost
+cutCost-le b w c v h k = mul-le-mul (omega (arith, h)) k
 
 -- ---- the smaller cut at the first dimension where they differ
 
@@ -109,12 +121,27 @@ precedes-of-lt weights u v h = inl h
 pub precedes-cons : (w b : ℕ) (weights u v : List ℕ) → Precedes weights u v → Precedes (w ∷ weights) (b ∷ u) (b ∷ v)
 unfolding Precedes
 precedes-cons w b weights u v (inl h) = inl (omega arith)
-precedes-cons w b weights u v (inr h) = inr (ap (λ (n : ℕ). b * w + n) (h .0), inr (refl, h .1))
+precedes-cons w b weights u v (inr h) = inr (ap (λ (n : ℕ). cutCost b w + n) (h .0), inr (refl, h .1))
 
 -- a smaller first cut, at no more cost
 pub precedes-of-first : (weights u v : List ℕ) (b c : ℕ) → b < c → costOf weights (b ∷ u) ≤ costOf weights (c ∷ v) → Precedes weights (b ∷ u) (c ∷ v)
 unfolding Precedes
 precedes-of-first weights u v b c l h = ⊎-elim (λ e. inr (e, inl l)) inl (eq-or-lt-of-le h)
+
+-- ---- another cost
+
+-- the same order by another cost
+pub PrecedesBy : (List ℕ → ℕ) → List ℕ → List ℕ → Type 0
+PrecedesBy cost u v = (cost u < cost v) ⊎ ((cost u ≡ cost v) × NotLater u v)
+
+-- a cost that is larger by the same amount for both leaves them in their order
+pub precedes-iff-shifted : (cost : List ℕ → ℕ) (weights u v : List ℕ) (more : ℕ) → cost u ≡ costOf weights u + more → cost v ≡ costOf weights v + more
+    → Precedes weights u v ↔ PrecedesBy cost u v
+unfolding Precedes PrecedesBy
+precedes-iff-shifted cost weights u v more e f = (
+  ⊎-elim (λ h. inl (omega (arith, e, f, h))) (λ h. inr (omega (arith, e, f, h .0), h .1)),
+  ⊎-elim (λ h. inl (omega (arith, e, f, h))) (λ h. inr (omega (arith, e, f, h .0), h .1)),
+)
 
 -- ---- no cut larger
 
@@ -135,7 +162,7 @@ costOf-atMost (w ∷ weights) [] [] h = le-refl 0
 costOf-atMost (w ∷ weights) [] (c ∷ v) h = absurd h
 costOf-atMost (w ∷ weights) (b ∷ u) [] h = absurd h
 costOf-atMost (w ∷ weights) (b ∷ u) (c ∷ v) h =
-    let here : b * w ≤ c * w = mul-le-mul-right w (h .0) in
+    let here = cutCost-mono b c w (h .0) in
     let later = costOf-atMost weights u v (h .1) in
     omega arith
 

@@ -1,10 +1,10 @@
--- Choosing the cuts (document 01, "Choosing the cuts").
+-- Choosing the cuts (document 01, "Choosing the cuts"; document 02, request a, for the cost).
 use mathlib.Core.Path.{_≡_}
 use mathlib.Core.Logic.{_⊎_}
 use mathlib.Core.Bool.{Bool, true, false, cond, _&&_, _||_}
 use mathlib.Core.List.{List, [], _∷_}
 use mathlib.Core.Option.{Option, none, some}
-use Prim.Native.Nat.{ℕ, suc, _+_, _*_, _%_, _≤_, _<_, _∣_}
+use Prim.Native.Nat.{ℕ, suc, _+_, _-_, _*_, _%_, _≤_, _<_, _∣_}
 use lib.Dec.{ltb, eqb}
 use lib.ListN.{length}
 use Rattle.numbers.specs.Products.{product, without}
@@ -34,11 +34,15 @@ cutsWithin (n ∷ most) = startingWith 1 n (cutsWithin most)
 abbrev pub Fits : List ℕ → List ℕ → Type 0
 Fits extents = Within extents
 
--- "The cost is b1·w1 + ... + bd·wd."
+-- Document 02, request a: "Each dimension now costs (bk − 1) · wk." Here 0 - 1 is 0, but no cut that fits is 0.
+unfoldable pub cutCost : ℕ → ℕ → ℕ
+cutCost b w = (b - 1) * w
+
+-- the cost of cuts: the sum over the dimensions
 abbrev pub costOf : List ℕ → List ℕ → ℕ
 costOf [] cuts = 0
 costOf (w ∷ weights) [] = 0
-costOf (w ∷ weights) (b ∷ cuts) = b * w + costOf weights cuts
+costOf (w ∷ weights) (b ∷ cuts) = cutCost b w + costOf weights cuts
 
 -- u has the smaller cut at the first dimension where u and v differ, or they differ nowhere
 abbrev pub NotLater : List ℕ → List ℕ → Type 0

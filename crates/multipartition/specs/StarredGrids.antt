@@ -1,4 +1,5 @@
--- The starred grids of document 01, "Grids to try", with the figures that its table names.
+-- The starred grids of document 01, "Grids to try", with the figures that its table names. Document 02, request a: "Every cost in document 01 drops by
+-- the sum of its weights".
 use mathlib.Core.Bool.{true}
 use mathlib.Core.List.{List, [], _∷_, map}
 use mathlib.Core.Option.{Option, some}
@@ -56,7 +57,7 @@ computed grid = map (figureOf (planAnswer (jobWith (grid .p) (length (grid .exte
 -- the starred lines
 abbrev pub starred : List Grid
 starred =
-    record { p = 1; extents = 1 ∷ 1 ∷ []; weights = 5 ∷ 7 ∷ []; answer = cuts (1 ∷ 1 ∷ []) ∷ cost 12 ∷ [] }
+    record { p = 1; extents = 1 ∷ 1 ∷ []; weights = 5 ∷ 7 ∷ []; answer = cuts (1 ∷ 1 ∷ []) ∷ cost 0 ∷ [] }
     ∷ record { p = 2; extents = 2 ∷ 2 ∷ []; weights = 0 ∷ 0 ∷ []; answer = cuts (2 ∷ 2 ∷ []) ∷ cost 0 ∷ row 2 (1 ∷ 1 ∷ []) ∷ [] }
     ∷ record { p = 2; extents = 1 ∷ 9 ∷ []; weights = 1 ∷ 1 ∷ []; answer = turned-down 5 0 ∷ [] }
     ∷ record {
@@ -65,7 +66,7 @@ starred =
       weights = 1 ∷ 1 ∷ 1 ∷ [];
       answer =
           cuts (2 ∷ 2 ∷ 2 ∷ [])
-          ∷ cost 6
+          ∷ cost 3
           ∷ moduli (1 ∷ 2 ∷ 2 ∷ [])
           ∷ row 1 (0 ∷ 0 ∷ 0 ∷ [])
           ∷ row 2 (1 ∷ 1 ∷ 0 ∷ [])
@@ -82,25 +83,25 @@ starred =
       p = 5;
       extents = 4 ∷ 9 ∷ 9 ∷ [];
       weights = 1 ∷ 1 ∷ 1 ∷ [];
-      answer = cuts (1 ∷ 5 ∷ 5 ∷ []) ∷ cost 11 ∷ row 3 (0 ∷ 4 ∷ 1 ∷ []) ∷ [];
+      answer = cuts (1 ∷ 5 ∷ 5 ∷ []) ∷ cost 8 ∷ row 3 (0 ∷ 4 ∷ 1 ∷ []) ∷ [];
     }
     ∷ record {
       p = 6;
       extents = 9 ∷ 9 ∷ 9 ∷ [];
       weights = 1 ∷ 1 ∷ 1 ∷ [];
-      answer = cuts (2 ∷ 3 ∷ 6 ∷ []) ∷ cost 11 ∷ moduli (1 ∷ 1 ∷ 6 ∷ []) ∷ row 3 (5 ∷ 4 ∷ 1 ∷ []) ∷ [];
+      answer = cuts (2 ∷ 3 ∷ 6 ∷ []) ∷ cost 8 ∷ moduli (1 ∷ 1 ∷ 6 ∷ []) ∷ row 3 (5 ∷ 4 ∷ 1 ∷ []) ∷ [];
     }
-    ∷ record { p = 6; extents = 1 ∷ 9 ∷ 9 ∷ []; weights = 1 ∷ 1 ∷ 1 ∷ []; answer = cuts (1 ∷ 6 ∷ 6 ∷ []) ∷ cost 13 ∷ [] }
+    ∷ record { p = 6; extents = 1 ∷ 9 ∷ 9 ∷ []; weights = 1 ∷ 1 ∷ 1 ∷ []; answer = cuts (1 ∷ 6 ∷ 6 ∷ []) ∷ cost 10 ∷ [] }
     ∷ record {
       p = 6;
       extents = 9 ∷ 9 ∷ 9 ∷ [];
       weights = 1 ∷ 1 ∷ 100 ∷ [];
-      answer = cuts (6 ∷ 6 ∷ 1 ∷ []) ∷ cost 112 ∷ moduli (1 ∷ 6 ∷ 1 ∷ []) ∷ [];
+      answer = cuts (6 ∷ 6 ∷ 1 ∷ []) ∷ cost 10 ∷ moduli (1 ∷ 6 ∷ 1 ∷ []) ∷ [];
     }
     ∷ record {
       p = 8;
       extents = 9 ∷ 9 ∷ 9 ∷ [];
       weights = 1 ∷ 1 ∷ 1 ∷ [];
-      answer = cuts (2 ∷ 4 ∷ 4 ∷ []) ∷ cost 10 ∷ moduli (1 ∷ 2 ∷ 4 ∷ []) ∷ row 3 (0 ∷ 3 ∷ 1 ∷ []) ∷ [];
+      answer = cuts (2 ∷ 4 ∷ 4 ∷ []) ∷ cost 7 ∷ moduli (1 ∷ 2 ∷ 4 ∷ []) ∷ row 3 (0 ∷ 3 ∷ 1 ∷ []) ∷ [];
     }
     ∷ []

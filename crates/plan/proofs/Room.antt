@@ -4,7 +4,6 @@ use mathlib.Core.Bool.{true}
 use mathlib.Core.List.{List, [], _∷_}
 use mathlib.Core.Logic.{inl, inr, ⊎-elim}
 use Prim.Native.Nat.{ℕ, suc, _+_, _*_, _^_, _≤_, _<_}
-use native.Mathlib.Nat.{mul-le-mul}
 use native.Mathlib.Omega.{arith}
 use lib.ListN.{length, take, drop, getD, length-append, length-take, length-drop, List·getD-eq-default}
 use lib.Seq.{getD-drop}
@@ -14,6 +13,7 @@ use Rattle.multipartition.specs.Cuts.{costOf}
 use Rattle.multipartition.specs.Plans.{Job, Layout, jobWith, inShape}
 use Rattle.multipartition.specs.Jobs.{PlanFor, planAnswer}
 use Rattle.multipartition.proofs.Answers.{Small}
+use Rattle.multipartition.proofs.Order.{cutCost-le}
 use Rattle.multipartition.proofs.Jobs.{plan-answered, plan-in-shape, plan-small}
 use Rattle.multipartition.proofs.Chosen.{chosen-cut-le}
 use Rattle.layout.specs.Plans.{layoutOf, planOf}
@@ -58,7 +58,7 @@ cost-le : (c w : ℕ) (weights cuts : List ℕ) → ((i : ℕ) → getD weights 
 cost-le c w [] cuts h k = omega arith
 cost-le c w (x ∷ weights) [] h k = omega arith
 cost-le c w (x ∷ weights) (b ∷ cuts) h k =
-    let first : b * x ≤ c * w = mul-le-mul (k 0) (h 0) in
+    let first = cutCost-le b x c w (k 0) (h 0) in
     let later = cost-le c w weights cuts (λ i. h (suc i)) (λ i. k (suc i)) in
     omega arith
 

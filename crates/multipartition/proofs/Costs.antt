@@ -1,0 +1,119 @@
+-- Request a of document 02 in two laws: a lone processor costs nothing, and the cuts chosen for a job are those that the former cost chose.
+use mathlib.Core.Path.{_≡_, refl, sym, _∙_, ap, subst⁻¹}
+use mathlib.Core.Logic.{_↔_}
+use mathlib.Core.List.{List, [], _∷_}
+use mathlib.Core.Option.{Option, none, some}
+use Prim.Native.Nat.{ℕ, zero, suc, _+_, _-_, _*_, _∣_}
+use native.Mathlib.Nat.{not-suc-le-zero, le-refl, one-dvd, suc-mul}
+use native.Mathlib.Omega.{arith}
+use Rattle.numbers.specs.Products.{product, without}
+use Rattle.multipartition.specs.Answers.{answered}
+use Rattle.multipartition.specs.Cuts.{Even, Within, Fits, cutCost, costOf, Precedes}
+use Rattle.multipartition.specs.Plans.{Job, Layout}
+use Rattle.multipartition.specs.Jobs.{cheapestFor, planAnswer}
+use Rattle.multipartition.proofs.MixedRadix.{Positive}
+use Rattle.multipartition.proofs.Order.{AtMost, PrecedesBy, precedes-iff-shifted}
+use Rattle.multipartition.proofs.Fitting.{fits-iff-within, within-positive, within-of-atMost}
+use Rattle.multipartition.proofs.Cheapest.{Cheapest, cheapest-law, cheapest-le, cheapest-within}
+use Rattle.multipartition.proofs.Chosen.{chosen-is}
+use Rattle.multipartition.proofs.Jobs.{plan-answered}
+
+-- ---- a lone processor
+
+-- one slab in each of as many dimensions
+abbrev uncut : List ℕ → List ℕ
+uncut [] = []
+uncut (b ∷ cuts) = 1 ∷ uncut cuts
+
+uncut-free : (weights cuts : List ℕ) → costOf weights (uncut cuts) ≡ 0
+unfolding cutCost
+uncut-free [] cuts = refl
+uncut-free (w ∷ weights) [] = refl
+uncut-free (w ∷ weights) (b ∷ cuts) = let later = uncut-free weights cuts in omega arith
+
+uncut-positive : (cuts : List ℕ) → Positive (uncut cuts)
+unfolding Positive
+uncut-positive [] = tt
+uncut-positive (b ∷ cuts) = (le-refl 1, uncut-positive cuts)
+
+uncut-atMost : (cuts : List ℕ) → Positive cuts → AtMost (uncut cuts) cuts
+unfolding Positive
+uncut-atMost [] h = tt
+uncut-atMost (b ∷ cuts) h = (h .0, uncut-atMost cuts (h .1))
+
+-- "A lone processor should cost nothing."
+pub lone-costs-nothing : (job : Job) (plan : Layout) → job .p ≡ 1 → planAnswer job ≡ answered plan → plan .cost ≡ 0
+lone-costs-nothing job plan lone e =
+    let made = plan-answered job plan e in
+    let cheapest = sym (chosen-is job) ∙ made .cuts-are in
+    let within = cheapest-within (job .p) (job .extents) (job .weights) (plan .cuts) cheapest in
+    let positive = within-positive (job .extents) (plan .cuts) within in
+    let whole = within-of-atMost (job .extents) (plan .cuts) (uncut (plan .cuts)) within (uncut-atMost (plan .cuts) positive) (uncut-positive (plan .cuts)) in
+    let even : Even (job .p) (uncut (plan .cuts)) = λ k l. subst⁻¹ (λ (p : ℕ). p ∣ product (without k (uncut (plan .cuts)))) lone (one-dvd _) in
+    let low = cheapest-le (job .p) (job .extents) (job .weights) (plan .cuts) (uncut (plan .cuts)) cheapest whole even in
+    let free = uncut-free (job .weights) (plan .cuts) in
+    ap (λ (l : Layout). l .cost) (made .plan-is) ∙ omega (arith, low, free)
+
+-- ---- the former cost
+
+-- document 01: "The cost is b1·w1 + ... + bd·wd."
+abbrev pub formerCost : List ℕ → List ℕ → ℕ
+formerCost [] cuts = 0
+formerCost (w ∷ weights) [] = 0
+formerCost (w ∷ weights) (b ∷ cuts) = b * w + formerCost weights cuts
+
+-- the sum of the weights, one for each extent
+abbrev pub weightsOver : List ℕ → List ℕ → ℕ
+weightsOver [] weights = 0
+weightsOver (n ∷ extents) [] = 0
+weightsOver (n ∷ extents) (w ∷ weights) = w + weightsOver extents weights
+
+-- "the sum drops by the same amount for all of them"
+pub cost-drops : (most weights cuts : List ℕ) → Within most cuts → formerCost weights cuts ≡ costOf weights cuts + weightsOver most weights
+unfolding cutCost
+cost-drops [] [] [] f = refl
+cost-drops [] (w ∷ weights) [] f = refl
+cost-drops [] weights (b ∷ cuts) f = absurd f
+cost-drops (n ∷ most) weights [] f = absurd f
+cost-drops (n ∷ most) [] (b ∷ cuts) f = refl
+cost-drops (n ∷ most) (w ∷ weights) (zero ∷ cuts) f = absurd (not-suc-le-zero (f .0))
+cost-drops (n ∷ most) (w ∷ weights) (suc b ∷ cuts) f =
+    let later = cost-drops most weights cuts (f .2) in
+    let less-one : suc b - 1 ≡ b = omega arith in
+    let here : suc b * w ≡ (suc b - 1) * w + w = suc-mul b w ∙ ap (λ (k : ℕ). k * w + w) (sym less-one) in
+    omega arith
+
+-- ---- the cuts chosen by the former cost
+
+module _ (job : Job) where
+  -- What the former definition answered: even, fitting cuts that precede all others by the former cost; or nothing, where no fitting cuts are even.
+  abbrev pub FormerlyChosen : Option (List ℕ) → Type 0
+  FormerlyChosen none = (v : List ℕ) → Fits (job .extents) v → Even (job .p) v → ⊥
+  FormerlyChosen (some u) =
+      Fits (job .extents) u × Even (job .p) u × ((v : List ℕ) → Fits (job .extents) v → Even (job .p) v → PrecedesBy (formerCost (job .weights)) u v)
+
+  precedes-iff-formerly : (u v : List ℕ) → Fits (job .extents) u → Fits (job .extents) v → Precedes (job .weights) u v ↔ PrecedesBy (formerCost (job .weights)) u v
+  precedes-iff-formerly u v f g =
+      precedes-iff-shifted (formerCost (job .weights)) (job .weights) u v (weightsOver (job .extents) (job .weights))
+      (cost-drops (job .extents) (job .weights) u (fits-iff-within (job .extents) u .0 f)) (cost-drops (job .extents) (job .weights) v (fits-iff-within (job .extents) v .0 g))
+
+  -- "The chosen cuts don't move": the same cuts are chosen by both costs.
+  pub cuts-unmoved : (o : Option (List ℕ)) → (cheapestFor job ≡ o) ↔ FormerlyChosen o
+  cuts-unmoved o = (
+    (λ e. there o (cheapest-law (job .p) (job .extents) (job .weights) o .0 (sym (chosen-is job) ∙ e))),
+    λ h. chosen-is job ∙ cheapest-law (job .p) (job .extents) (job .weights) o .1 (back o h),
+  )
+    where
+      fits : (v : List ℕ) → Within (job .extents) v → Fits (job .extents) v
+      fits v = fits-iff-within (job .extents) v .1
+
+      within : (v : List ℕ) → Fits (job .extents) v → Within (job .extents) v
+      within v = fits-iff-within (job .extents) v .0
+
+      there : (o : Option (List ℕ)) → Cheapest (job .p) (job .extents) (job .weights) o → FormerlyChosen o
+      there none h = λ v f even. h v (within v f) even
+      there (some u) h = (fits u (h .0), h .1, λ v f even. precedes-iff-formerly u v (fits u (h .0)) f .0 (h .2 v (within v f) even))
+
+      back : (o : Option (List ℕ)) → FormerlyChosen o → Cheapest (job .p) (job .extents) (job .weights) o
+      back none h = λ v f even. h v (fits v f) even
+      back (some u) h = (within u (h .0), h .1, λ v f even. precedes-iff-formerly u v (h .0) (fits v f) .1 (h .2 v (fits v f) even))
