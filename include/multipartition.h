@@ -39,7 +39,7 @@ enum {
     MULTIPARTITION_EXTENTS = 2,
     MULTIPARTITION_WEIGHTS = 7,
     MULTIPARTITION_CUTS = 12,     /* the number of slabs of each dimension */
-    MULTIPARTITION_COST_LOW = 17, /* the lower 32 bits of the cost */
+    MULTIPARTITION_COST_LOW = 17, /* the lower 32 bits of the cost, the sum of cut less one times weight */
     MULTIPARTITION_COST_HIGH = 18,
     MULTIPARTITION_MODULI = 19,
     MULTIPARTITION_MATRIX = 24,

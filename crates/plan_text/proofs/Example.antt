@@ -1,4 +1,5 @@
--- Document 01's example: what is printed for its job is, byte for byte, what the paper shows.
+-- Document 01's example: what is printed for its job is, byte for byte, what document 01 shows, with the cost of document 02: "the grid 8 8 8 on 4
+-- prints `cost 3`".
 use mathlib.Core.Path.{_≡_, refl}
 use mathlib.Core.List.{List, [], _∷_, _++_}
 use Prim.Native.Nat.{ℕ}

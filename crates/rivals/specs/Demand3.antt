@@ -47,7 +47,8 @@ pub record Ours (job : Job) (plan : Plan) : Type 0 where
       → held (cutsOf plan) (ownerIn plan) k s q ≡ product (cutsOf plan) / (getD (cutsOf plan) k 0 * job .p)
   -- that share is exact, not rounded
   pub share-exact : (k : ℕ) → k < length (cutsOf plan) → getD (cutsOf plan) k 0 * job .p ∣ product (cutsOf plan)
-  -- "its cost is the one in the plan, summed from the plan's cuts", and no balanced rival costs less
+  -- "its cost is the one in the plan, summed from the plan's cuts", and no balanced rival costs less; document 02, request a: "The rival's cost is
+  -- counted in the same way from here on."
   pub cost-summed : plan .cost ≡ costOf (job .weights) (cutsOf plan)
   pub cheapest-of-all : (rival : Rival job) → Balanced (job .p) (rival .cuts) (rival .owner) → plan .cost ≤ costOf (job .weights) (rival .cuts)
   -- tiles with a common face have different owners
