@@ -48,7 +48,7 @@ static void expect_five(const char *what, const uint32_t *found, const uint32_t 
 }
 
 static const uint32_t extents[D] = {101, 67, 41, 999983, 211};
-static const uint32_t weights[D] = {3569424485, 1132923280, 2564946055, 1861655, 1862693460};
+static const uint32_t weights[D] = {3569424485, 1132923280, 2664946055, 1861655, 1862693460};
 static const uint32_t cuts[D] = {4, 14, 6, 420, 10};
 static const uint32_t moduli[D] = {1, 2, 2, 84, 10};
 static const uint32_t matrix[D][D] = {{0, 0, 0, 0, 0}, {1, 1, 0, 0, 0}, {0, 1, 1, 0, 0}, {83, 12, 70, 1, 0}, {1, 8, 3, 9, 1}};
@@ -61,8 +61,8 @@ static void plan_places(uint32_t plan[ROOM])
     expect_five("an extent", plan + MULTIPARTITION_EXTENTS, extents);
     expect_five("a weight", plan + MULTIPARTITION_WEIGHTS, weights);
     expect_five("a cut", plan + MULTIPARTITION_CUTS, cuts);
-    EXPECT(plan[MULTIPARTITION_COST_LOW], 512620450);
-    EXPECT(plan[MULTIPARTITION_COST_HIGH], 15);
+    EXPECT(plan[MULTIPARTITION_COST_LOW], 470706107);
+    EXPECT(plan[MULTIPARTITION_COST_HIGH], 13);
     expect_five("a modulus", plan + MULTIPARTITION_MODULI, moduli);
     for (int i = 0; i < D; i++)
         expect_five("a matrix entry", plan + MULTIPARTITION_MATRIX + i * MULTIPARTITION_ROW_LENGTH, matrix[i]);

@@ -145,7 +145,7 @@ fn answers_of_the_first_example() {
     let list = planned();
     assert_eq!(
         list[..20],
-        [3, 4, 8, 8, 8, 0, 0, 1, 1, 1, 0, 0, 2, 2, 2, 0, 0, 6, 0, 1]
+        [3, 4, 8, 8, 8, 0, 0, 1, 1, 1, 0, 0, 2, 2, 2, 0, 0, 3, 0, 1]
     );
     let mut one = [77];
     assert_eq!((owner(&list, &[1, 0, 0], &mut one), one), (0, [2]));

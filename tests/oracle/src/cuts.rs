@@ -20,10 +20,10 @@ pub fn fit(cuts: &[u32], extents: &[u32]) -> bool {
     cuts.iter().zip(extents).all(|(&b, &n)| 1 <= b && b <= n)
 }
 
-/// "The cost is b1*w1 + ... + bd*wd."
+/// "Each dimension now costs (bk - 1) * wk" (document 02, a). To be asked of cuts of 1 or more.
 pub fn cost(cuts: &[u32], weights: &[u32]) -> u64 {
     let parts = cuts.iter().zip(weights);
-    parts.map(|(&b, &w)| u64::from(b) * u64::from(w)).sum()
+    parts.map(|(&b, &w)| u64::from(b - 1) * u64::from(w)).sum()
 }
 
 /// The cheapest cuts seen so far; "among equals, those with the smaller cut at the first dimension
@@ -262,19 +262,61 @@ mod tests {
         );
     }
 
+    /// A count, extents and weights, 0 among them, on a grid so small that all its cuts can be tried.
+    fn small_job(random: &mut Random) -> (u32, Vec<u32>, Vec<u32>) {
+        let d = random.between(2, 5) as usize;
+        let p = random.between(1, 36) as u32;
+        let side = [120, 25, 10, 7][d - 2];
+        let extents = (0..d).map(|_| random.between(1, side) as u32).collect();
+        let weights = (0..d).map(|_| random.between(0, 5) as u32).collect();
+        (p, extents, weights)
+    }
+
     #[test]
     fn three_ways_agree_on_small_grids() {
         let mut random = Random::new(1);
         for _ in 0..2000 {
-            let d = random.between(2, 5) as usize;
-            let p = random.between(1, 36) as u32;
-            let side = [120, 25, 10, 7][d - 2];
-            let extents: Vec<u32> = (0..d).map(|_| random.between(1, side) as u32).collect();
-            let weights: Vec<u32> = (0..d).map(|_| random.between(0, 5) as u32).collect();
+            let (p, extents, weights) = small_job(&mut random);
             let all = by_trying_all(p, &extents, &weights);
             let context = format!("{p} on {extents:?} by {weights:?}");
             assert_eq!(by_divisors(p, &extents, &weights), all, "{context}");
             assert_eq!(elementary(p, &extents, &weights), all, "{context}");
+        }
+    }
+
+    /// The cost before request a of document 02: b1*w1 + ... + bd*wd.
+    fn former_cost(cuts: &[u32], weights: &[u32]) -> u64 {
+        let parts = cuts.iter().zip(weights);
+        parts.map(|(&b, &w)| u64::from(b) * u64::from(w)).sum()
+    }
+
+    /// All fitting cuts, the first dimension running fastest.
+    fn all_fitting(extents: &[u32]) -> impl Iterator<Item = Vec<u32>> + '_ {
+        (0..fitting(extents)).map(|mut left| {
+            let cut = |&n: &u32| {
+                let b = 1 + (left % u128::from(n)) as u32;
+                left /= u128::from(n);
+                b
+            };
+            extents.iter().map(cut).collect()
+        })
+    }
+
+    /// "The chosen cuts don't move, since the sum drops by the same amount for all of them."
+    #[test]
+    fn the_former_cost_chose_the_same_cuts() {
+        let mut random = Random::new(5);
+        for _ in 0..2000 {
+            let (p, extents, weights) = small_job(&mut random);
+            let all = all_fitting(&extents).filter(|cuts| even(p, cuts));
+            let former = all.map(|cuts| (former_cost(&cuts, &weights), cuts)).min();
+            let chosen = by_trying_all(p, &extents, &weights);
+            let dropped: u64 = weights.iter().map(|&w| u64::from(w)).sum();
+            assert_eq!(
+                chosen.map(|cuts| (cost(&cuts, &weights) + dropped, cuts)),
+                former,
+                "{p} on {extents:?} by {weights:?}"
+            );
         }
     }
 

@@ -246,7 +246,7 @@ mod tests {
             ("cuts 2 4 4", "cuts 4 4 4"),
             ("cuts 2 4 4", "cuts 2 4 2"),
             ("cuts 2 4 4", "cuts 16 4 4"),
-            ("cost 10", "cost 11"),
+            ("cost 7", "cost 8"),
             ("mod 1 2 4", "mod 1 4 2"),
             ("mod 1 2 4", "mod 1 2 2"),
             ("row 1 1 0", "row 1 0 0"),

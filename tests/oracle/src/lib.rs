@@ -1,4 +1,5 @@
-//! Document 01 written down a second time, in plain Rust, to test the planner against.
+//! Document 01 with request a of document 02, written down a second time in plain Rust, to test the
+//! planner against.
 //!
 //! Everything here follows the definitions literally and prefers the slow and obvious way:
 //! the cuts are found by trying all that fit (or, where there are too many, all elementary

@@ -138,7 +138,7 @@ pub fn check_below(number: u32, limit: u128) -> Result<(), Refusal> {
 mod tests {
     use super::*;
 
-    /// A line of "Grids to try".
+    /// A line of "Grids to try", whose costs drop by the sum of the weights (document 02, a).
     fn grid(p: u32, extents: &[u32], weights: &[u32]) -> Result<Plan, Refusal> {
         plan_job(p, extents.len() as u32, extents, weights)
     }
@@ -146,33 +146,55 @@ mod tests {
     #[test]
     fn grids_to_try() {
         let plan = grid(1, &[1, 1], &[5, 7]).unwrap();
-        assert_eq!((plan.cuts, plan.cost), ([1, 1, 0, 0, 0], 12));
+        assert_eq!((plan.cuts, plan.cost), ([1, 1, 0, 0, 0], 0));
         let plan = grid(2, &[2, 2], &[0, 0]).unwrap();
         assert_eq!((plan.cuts, plan.cost), ([2, 2, 0, 0, 0], 0));
         assert_eq!(plan.matrix[1], [1, 1, 0, 0, 0]);
         assert_eq!(grid(2, &[1, 9], &[1, 1]), Err(refusal::NO_CUTS));
         let plan = grid(4, &[8, 8, 8], &[1, 1, 1]).unwrap();
-        assert_eq!((plan.cuts, plan.cost), ([2, 2, 2, 0, 0], 6));
+        assert_eq!((plan.cuts, plan.cost), ([2, 2, 2, 0, 0], 3));
         assert_eq!(grid(4, &[1, 3, 9], &[1, 1, 1]), Err(refusal::NO_CUTS));
         let plan = grid(5, &[4, 9, 9], &[1, 1, 1]).unwrap();
-        assert_eq!((plan.cuts, plan.cost), ([1, 5, 5, 0, 0], 11));
+        assert_eq!((plan.cuts, plan.cost), ([1, 5, 5, 0, 0], 8));
         assert_eq!(plan.matrix[2], [0, 4, 1, 0, 0]);
         let plan = grid(6, &[9, 9, 9], &[1, 1, 1]).unwrap();
-        assert_eq!((plan.cuts, plan.cost), ([2, 3, 6, 0, 0], 11));
+        assert_eq!((plan.cuts, plan.cost), ([2, 3, 6, 0, 0], 8));
         assert_eq!(plan.moduli, [1, 1, 6, 0, 0]);
         assert_eq!(plan.matrix[2], [5, 4, 1, 0, 0]);
         let plan = grid(6, &[1, 9, 9], &[1, 1, 1]).unwrap();
-        assert_eq!((plan.cuts, plan.cost), ([1, 6, 6, 0, 0], 13));
+        assert_eq!((plan.cuts, plan.cost), ([1, 6, 6, 0, 0], 10));
         let plan = grid(6, &[9, 9, 9], &[1, 1, 100]).unwrap();
-        assert_eq!((plan.cuts, plan.cost), ([6, 6, 1, 0, 0], 112));
+        assert_eq!((plan.cuts, plan.cost), ([6, 6, 1, 0, 0], 10));
         assert_eq!(plan.moduli, [1, 6, 1, 0, 0]);
         let plan = grid(8, &[9, 9, 9], &[1, 1, 1]).unwrap();
-        assert_eq!((plan.cuts, plan.cost), ([2, 4, 4, 0, 0], 10));
+        assert_eq!((plan.cuts, plan.cost), ([2, 4, 4, 0, 0], 7));
         assert_eq!(plan.moduli, [1, 2, 4, 0, 0]);
         assert_eq!(plan.matrix[2], [0, 3, 1, 0, 0]);
         let plan = grid(4096, &[4096, 4096], &[1, 1]).unwrap();
-        assert_eq!(plan.tiles(), 16_777_216);
+        assert_eq!((plan.tiles(), plan.cost), (16_777_216, 8190));
         assert_eq!(grid(4096, &[4096, 4095], &[1, 1]), Err(refusal::NO_CUTS));
+    }
+
+    #[test]
+    fn costs_of_many_processors() {
+        let plan = grid(4093, &[1_000_000; 5], &[u32::MAX; 5]).unwrap();
+        assert_eq!(plan.cuts, [1, 1, 1, 4093, 4093]);
+        assert_eq!(plan.cost, 35_150_012_342_280);
+        let plan = grid(4096, &[1_000_000; 5], &[u32::MAX; 5]).unwrap();
+        assert_eq!((plan.cuts, plan.cost), ([8; 5], 150_323_855_325));
+    }
+
+    #[test]
+    fn a_lone_processor_costs_nothing() {
+        let lists = [[0; 5], [1; 5], [5, 7, 0, 1, u32::MAX], [u32::MAX; 5]];
+        for weights in lists {
+            for d in 2..=5 {
+                for n in [1, 7, 1_000_000] {
+                    let plan = grid(1, &vec![n; d], &weights[..d]).unwrap();
+                    assert_eq!((plan.tiles(), plan.cost), (1, 0), "{plan:?}");
+                }
+            }
+        }
     }
 
     #[test]

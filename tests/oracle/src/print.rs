@@ -62,7 +62,7 @@ mod tests {
 
     #[test]
     fn the_example() {
-        let expected = "plan 4 3\ncuts 2 2 2\ncost 6\nmod 1 2 2\n\
+        let expected = "plan 4 3\ncuts 2 2 2\ncost 3\nmod 1 2 2\n\
             row 0 0 0\nrow 1 1 0\nrow 0 1 1\n\
             up 1 2 3 0 1\nup 2 3 2 1 0\nup 3 1 0 3 2\n";
         assert_eq!(answer(b"4 3 8 8 8 1 1 1\n"), expected);
@@ -70,7 +70,7 @@ mod tests {
 
     #[test]
     fn no_neighbours() {
-        let expected = "plan 1 2\ncuts 1 1\ncost 12\nmod 1 1\nrow 0 0\nrow 0 0\n\
+        let expected = "plan 1 2\ncuts 1 1\ncost 0\nmod 1 1\nrow 0 0\nrow 0 0\n\
             up 1 none\nup 2 none\n";
         assert_eq!(answer(b"1 2 1 1 5 7\n"), expected);
     }
