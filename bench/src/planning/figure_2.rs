@@ -133,7 +133,8 @@ impl Enumeration<'_> {
     fn consider(&mut self, cuts: Cuts) {
         let mut cost = 0;
         for (&b, &w) in cuts.iter().zip(&self.job.weights) {
-            cost += u64::from(b) * u64::from(w);
+            // (b - 1) * w, and nothing past d, where both are 0.
+            cost += u64::from(b) * u64::from(w) - u64::from(w);
         }
         if self.fits(&cuts) && (cost < self.cost || cost == self.cost && cuts < self.cuts) {
             self.cost = cost;

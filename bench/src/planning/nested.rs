@@ -87,7 +87,8 @@ impl Nested<'_> {
             if b > n {
                 return;
             }
-            cost += u64::from(b) * u64::from(w);
+            // (b - 1) * w, and nothing past d, where both are 0.
+            cost += u64::from(b) * u64::from(w) - u64::from(w);
         }
         if cost < self.cost || cost == self.cost && cuts < self.cuts {
             self.cost = cost;

@@ -34,8 +34,8 @@ fn divisors(p: u32) -> ([u32; MOST_DIVISORS], usize) {
 struct Search<'a> {
     job: &'a Job,
     divisors: &'a [u32],
-    /// The sum of the weights from each dimension on.
-    weights_from: [u64; 6],
+    /// The sum of the last two weights.
+    last_weights: u64,
     /// The place of each divisor among them; empty where nothing is remembered.
     place: &'a [u8],
     /// Cost times 8192 plus cut, or `NONE`; 0 where not known yet.
@@ -46,14 +46,10 @@ struct Search<'a> {
 pub fn cheapest(job: &Job) -> Option<(u64, Cuts)> {
     let (list, count) = divisors(job.p);
     let divisors = &list[..count];
-    let mut weights_from = [0; 6];
-    for k in (0..job.d).rev() {
-        weights_from[k] = weights_from[k + 1] + u64::from(job.weights[k]);
-    }
     let mut search = Search {
         job,
         divisors,
-        weights_from,
+        last_weights: u64::from(job.weights[job.d - 2]) + u64::from(job.weights[job.d - 1]),
         place: &[],
         table: &mut [],
     };
@@ -143,7 +139,7 @@ impl Search<'_> {
 
     fn last(&self, k: usize, a: u32, e: u32) -> u64 {
         if e == 1 && a <= self.job.extents[k] {
-            u64::from(a) * u64::from(self.job.weights[k]) * 8192 + u64::from(a)
+            u64::from(a - 1) * u64::from(self.job.weights[k]) * 8192 + u64::from(a)
         } else {
             NONE
         }
@@ -157,14 +153,14 @@ impl Search<'_> {
         let (mut best, mut cut) = (NONE, 0);
         for &t in self.divisors {
             let b = e * t;
-            let cost = u64::from(b) * weight;
-            let at_least = cost + u64::from(e) * last_weight;
+            let cost = u64::from(b - 1) * weight;
+            let at_least = cost + u64::from(e - 1) * last_weight;
             if t > parts || b > self.job.extents[k] || at_least >= best {
                 break;
             }
             if parts.is_multiple_of(t) {
                 let last = lcm(e, parts / t);
-                let cost = cost + u64::from(last) * last_weight;
+                let cost = cost + u64::from(last - 1) * last_weight;
                 if last <= self.job.extents[k + 1] && cost < best {
                     (best, cut) = (cost, b);
                 }
@@ -176,11 +172,11 @@ impl Search<'_> {
     /// Three or more cuts left.
     fn more(&mut self, k: usize, a: u32, e: u32) -> (u64, u32) {
         let weight = u64::from(self.job.weights[k]);
-        let after = self.weights_from[k + 1];
         let (mut best, mut cut) = (NONE, 0);
         for &b in self.divisors {
-            let cost = u64::from(b) * weight;
-            if b > a || b > self.job.extents[k] || cost + after >= best {
+            let cost = u64::from(b - 1) * weight;
+            // The later dimensions may cost nothing.
+            if b > a || b > self.job.extents[k] || cost >= best {
                 break;
             }
             if !a.is_multiple_of(b) {
@@ -188,7 +184,7 @@ impl Search<'_> {
             }
             let (next_a, next_e) = after_cut(a, e, b);
             // Of two cuts left each is a multiple of e.
-            if self.job.d - k == 3 && cost + u64::from(next_e) * after >= best {
+            if self.job.d - k == 3 && cost + u64::from(next_e - 1) * self.last_weights >= best {
                 continue;
             }
             let rest = self.least(k + 1, next_a, next_e);
