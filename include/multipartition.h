@@ -32,14 +32,15 @@ extern "C" {
 #endif
 
 /* The places of a plan list. Extents, weights, cuts and moduli have five places each, for dimension 1 first; the matrix has five rows of
- * five places, row after row. Places past the number of dimensions are 0 in a planned list, and are never read. */
+ * five places, row after row. Places past the number of dimensions are 0 in a planned list, and are never read. The cost is the sum of
+ * (cut - 1) * weight over the dimensions; in a list made before it was counted so it is larger by the sum of the weights. No question reads it. */
 enum {
     MULTIPARTITION_DIMENSIONS = 0, /* d, the number of dimensions */
     MULTIPARTITION_PROCESSORS = 1, /* p, the number of processors */
     MULTIPARTITION_EXTENTS = 2,
     MULTIPARTITION_WEIGHTS = 7,
     MULTIPARTITION_CUTS = 12,     /* the number of slabs of each dimension */
-    MULTIPARTITION_COST_LOW = 17, /* the lower 32 bits of the cost, the sum of cut less one times weight */
+    MULTIPARTITION_COST_LOW = 17, /* the lower 32 bits of the cost */
     MULTIPARTITION_COST_HIGH = 18,
     MULTIPARTITION_MODULI = 19,
     MULTIPARTITION_MATRIX = 24,

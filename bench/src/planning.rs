@@ -23,6 +23,14 @@ struct Job {
     weights: [u32; 5],
 }
 
+impl Job {
+    /// The sum of b * w where no dimension is cut. Any cuts cost their sum of b * w less this, so
+    /// that an enumeration takes it off once, at its end.
+    fn uncut(&self) -> u64 {
+        self.weights.iter().map(|&w| u64::from(w)).sum()
+    }
+}
+
 type Cuts = [u32; 5];
 
 /// Plans by the paper's enumeration.

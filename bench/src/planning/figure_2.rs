@@ -14,6 +14,7 @@ struct Enumeration<'a> {
     job: &'a Job,
     distributions: &'a Distributions,
     leave_early: bool,
+    /// The least sum of b * w so far.
     cost: u64,
     cuts: Cuts,
 }
@@ -66,7 +67,7 @@ pub fn cheapest(job: &Job, leave_early: bool) -> Option<(u64, Cuts)> {
     } else {
         enumeration.combine(0, one);
     }
-    (enumeration.cost != u64::MAX).then_some((enumeration.cost, enumeration.cuts))
+    (enumeration.cost != u64::MAX).then(|| (enumeration.cost - job.uncut(), enumeration.cuts))
 }
 
 /// `P` of Figure 2.
@@ -133,8 +134,7 @@ impl Enumeration<'_> {
     fn consider(&mut self, cuts: Cuts) {
         let mut cost = 0;
         for (&b, &w) in cuts.iter().zip(&self.job.weights) {
-            // (b - 1) * w, and nothing past d, where both are 0.
-            cost += u64::from(b) * u64::from(w) - u64::from(w);
+            cost += u64::from(b) * u64::from(w);
         }
         if self.fits(&cuts) && (cost < self.cost || cost == self.cost && cuts < self.cuts) {
             self.cost = cost;

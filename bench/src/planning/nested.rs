@@ -13,6 +13,7 @@ struct Nested<'a> {
     powers: [[u32; 13]; 5],
     times: [i32; 5],
     factors: usize,
+    /// The least sum of b * w so far.
     cost: u64,
     cuts: Cuts,
 }
@@ -47,7 +48,7 @@ impl Nested<'_> {
         let mut one = [0; 5];
         one[..self.job.d].fill(1);
         self.partitions(0, one);
-        (self.cost != u64::MAX).then_some((self.cost, self.cuts))
+        (self.cost != u64::MAX).then(|| (self.cost - self.job.uncut(), self.cuts))
     }
 
     /// `Partitions` of Figure 2 for one factor after the others.
@@ -87,8 +88,7 @@ impl Nested<'_> {
             if b > n {
                 return;
             }
-            // (b - 1) * w, and nothing past d, where both are 0.
-            cost += u64::from(b) * u64::from(w) - u64::from(w);
+            cost += u64::from(b) * u64::from(w);
         }
         if cost < self.cost || cost == self.cost && cuts < self.cuts {
             self.cost = cost;

@@ -1,5 +1,5 @@
 -- The order among cuts is a total order, and the test `precedes` decides it. Others use the order by the laws that begin with `precedes`, so that
--- only this file depends on what decides among equal costs, and the cost of a dimension by those that begin with `cutCost`.
+-- only this file depends on what decides among equal costs. Of what a dimension costs it uses that a larger cut costs no less.
 use mathlib.Core.Path.{_≡_, refl, _∙_, ap, ap₂}
 use mathlib.Core.Logic.{_⊎_, inl, inr, ⊎-elim, _↔_}
 use mathlib.Core.Bool.{Bool, true, false, _&&_, _||_}
@@ -19,7 +19,7 @@ pub cutCost-mono : (b c w : ℕ) → b ≤ c → cutCost b w ≤ cutCost c w
 unfolding cutCost
 cutCost-mono b c w h = mul-le-mul-right w (omega (arith, h))
 
--- nor does it cost more than bounds of its cut and its weight, multiplied
+-- a dimension costs at most the product of a bound of its cut and a bound of its weight
 pub cutCost-le : (b w c v : ℕ) → b ≤ c → w ≤ v → cutCost b w ≤ c * v
 unfolding cutCost
 cutCost-le b w c v h k = mul-le-mul (omega (arith, h)) k

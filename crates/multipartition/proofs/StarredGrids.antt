@@ -1,4 +1,5 @@
--- The starred grids of document 01 have the figures of its table: computed from the definitions, over all cut vectors.
+-- The starred grids of document 01 have the figures of its table, the costs less the sum of the weights: computed from the definitions, over all cut
+-- vectors.
 use mathlib.Core.Path.{_≡_, refl}
 use mathlib.Core.List.{map}
 use Rattle.numbers.specs.Gcd.{gcd}
