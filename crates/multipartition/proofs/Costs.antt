@@ -1,22 +1,23 @@
--- Request a of document 02 in two laws: a lone processor costs nothing, and the cuts chosen for a job are those that the former cost chose.
+-- Request a of document 02: a lone processor costs nothing, and the cuts chosen for a job are those that the former cost chose.
 use mathlib.Core.Path.{_≡_, refl, sym, _∙_, ap, subst⁻¹}
 use mathlib.Core.Logic.{_↔_}
 use mathlib.Core.List.{List, [], _∷_}
 use mathlib.Core.Option.{Option, none, some}
-use Prim.Native.Nat.{ℕ, zero, suc, _+_, _-_, _*_, _∣_}
-use native.Mathlib.Nat.{not-suc-le-zero, le-refl, one-dvd, suc-mul}
+use Prim.Native.Nat.{ℕ, zero, suc, _+_, _-_, _*_, _∣_, _≤_, _<_}
+use native.Mathlib.Nat.{not-suc-le-zero, zero-lt-suc, le-refl, one-dvd, suc-mul}
 use native.Mathlib.Omega.{arith}
+use lib.ListN.{length, getD}
 use Rattle.numbers.specs.Products.{product, without}
 use Rattle.multipartition.specs.Answers.{answered}
 use Rattle.multipartition.specs.Cuts.{Even, Within, Fits, cutCost, costOf, Precedes}
-use Rattle.multipartition.specs.Plans.{Job, Layout}
-use Rattle.multipartition.specs.Jobs.{cheapestFor, planAnswer}
+use Rattle.multipartition.specs.Plans.{Job, Layout, layoutWith}
+use Rattle.multipartition.specs.Jobs.{Passed, cheapestFor, planWith, planAnswer}
 use Rattle.multipartition.proofs.MixedRadix.{Positive}
 use Rattle.multipartition.proofs.Order.{AtMost, PrecedesBy, precedes-iff-shifted}
 use Rattle.multipartition.proofs.Fitting.{fits-iff-within, within-positive, within-of-atMost}
 use Rattle.multipartition.proofs.Cheapest.{Cheapest, cheapest-law, cheapest-le, cheapest-within}
-use Rattle.multipartition.proofs.Chosen.{chosen-is}
-use Rattle.multipartition.proofs.Jobs.{plan-answered}
+use Rattle.multipartition.proofs.Chosen.{chosen-is, none-chosen}
+use Rattle.multipartition.proofs.Jobs.{plan-of-passed, plan-answered}
 
 -- ---- a lone processor
 
@@ -41,6 +42,24 @@ unfolding Positive
 uncut-atMost [] h = tt
 uncut-atMost (b ∷ cuts) h = (h .0, uncut-atMost cuts (h .1))
 
+uncut-within : (most : List ℕ) → ((k : ℕ) → k < length most → 1 ≤ getD most k 0) → Within most (uncut most)
+uncut-within [] h = tt
+uncut-within (n ∷ most) h = (le-refl 1, h 0 (zero-lt-suc (length most)), uncut-within most (λ k l. h (suc k) (omega arith)))
+
+even-of-lone : (p : ℕ) (cuts : List ℕ) → p ≡ 1 → Even p cuts
+even-of-lone p cuts lone k l = subst⁻¹ (λ (n : ℕ). n ∣ product (without k cuts)) lone (one-dvd (product (without k cuts)))
+
+-- a job in range for a lone processor is accepted
+pub lone-accepted : (job : Job) → Passed job → job .p ≡ 1 → (plan : Layout) × (planAnswer job ≡ answered plan)
+unfolding planWith
+lone-accepted job passed lone = go (cheapestFor job) refl
+  where
+    go : (o : Option (List ℕ)) → cheapestFor job ≡ o → (plan : Layout) × (planAnswer job ≡ answered plan)
+    go none e =
+        let whole = fits-iff-within (job .extents) (uncut (job .extents)) .1 (uncut-within (job .extents) (passed .range .extent-low)) in
+        absurd (none-chosen job (uncut (job .extents)) e whole (even-of-lone (job .p) (uncut (job .extents)) lone))
+    go (some cuts) e = (layoutWith job cuts, plan-of-passed job passed ∙ ap (planWith job) e)
+
 -- "A lone processor should cost nothing."
 pub lone-costs-nothing : (job : Job) (plan : Layout) → job .p ≡ 1 → planAnswer job ≡ answered plan → plan .cost ≡ 0
 lone-costs-nothing job plan lone e =
@@ -49,7 +68,7 @@ lone-costs-nothing job plan lone e =
     let within = cheapest-within (job .p) (job .extents) (job .weights) (plan .cuts) cheapest in
     let positive = within-positive (job .extents) (plan .cuts) within in
     let whole = within-of-atMost (job .extents) (plan .cuts) (uncut (plan .cuts)) within (uncut-atMost (plan .cuts) positive) (uncut-positive (plan .cuts)) in
-    let even : Even (job .p) (uncut (plan .cuts)) = λ k l. subst⁻¹ (λ (p : ℕ). p ∣ product (without k (uncut (plan .cuts)))) lone (one-dvd _) in
+    let even = even-of-lone (job .p) (uncut (plan .cuts)) lone in
     let low = cheapest-le (job .p) (job .extents) (job .weights) (plan .cuts) (uncut (plan .cuts)) cheapest whole even in
     let free = uncut-free (job .weights) (plan .cuts) in
     ap (λ (l : Layout). l .cost) (made .plan-is) ∙ omega (arith, low, free)
@@ -62,7 +81,7 @@ formerCost [] cuts = 0
 formerCost (w ∷ weights) [] = 0
 formerCost (w ∷ weights) (b ∷ cuts) = b * w + formerCost weights cuts
 
--- the sum of the weights, one for each extent
+-- the sum of the weights, one for each extent: of all weights, where there are as many
 abbrev pub weightsOver : List ℕ → List ℕ → ℕ
 weightsOver [] weights = 0
 weightsOver (n ∷ extents) [] = 0

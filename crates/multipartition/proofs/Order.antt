@@ -131,7 +131,7 @@ precedes-of-first weights u v b c l h = ⊎-elim (λ e. inr (e, inl l)) inl (eq-
 -- ---- another cost
 
 -- the same order by another cost
-pub PrecedesBy : (List ℕ → ℕ) → List ℕ → List ℕ → Type 0
+unfoldable pub PrecedesBy : (List ℕ → ℕ) → List ℕ → List ℕ → Type 0
 PrecedesBy cost u v = (cost u < cost v) ⊎ ((cost u ≡ cost v) × NotLater u v)
 
 -- a cost that is larger by the same amount for both leaves them in their order

@@ -26,7 +26,7 @@ use Rattle.job_text.proofs.Finds.{finds-unique}
 use Rattle.job_text.proofs.Front.{longestLine, finds-front}
 use Rattle.plan_text.specs.declared.Printed.{Printed}
 use Rattle.plan_text.specs.declared.Printed.the-variants.{Bytes, Refused}
-use Rattle.plan_text.specs.PlanText.{planText, refusedText, answerText}
+use Rattle.plan_text.specs.PlanText.{planText, answerText}
 use Rattle.plan_text.specs.Told.{textAnswer, toldPrinted, lengthOf, afterwards}
 use Rattle.plan_text.proofs.Lengths.{longestPlan, length-plan-text, length-refused-text}
 use Rattle.plan_text.proofs.Handing.{text-fits}
