@@ -12,10 +12,9 @@ use Rattle.multipartition.specs.Answers.{answered}
 use Rattle.multipartition.specs.Cuts.{Even, Within, Fits, cutCost, costOf, Precedes}
 use Rattle.multipartition.specs.Plans.{Job, Layout, layoutWith}
 use Rattle.multipartition.specs.Jobs.{Passed, cheapestFor, planWith, planAnswer}
-use Rattle.multipartition.proofs.MixedRadix.{Positive}
-use Rattle.multipartition.proofs.Order.{AtMost, PrecedesBy, precedes-iff-shifted}
-use Rattle.multipartition.proofs.Fitting.{fits-iff-within, within-positive, within-of-atMost}
-use Rattle.multipartition.proofs.Cheapest.{Cheapest, cheapest-law, cheapest-le, cheapest-within}
+use Rattle.multipartition.proofs.Order.{PrecedesBy, precedes-iff-shifted}
+use Rattle.multipartition.proofs.Fitting.{fits-iff-within}
+use Rattle.multipartition.proofs.Cheapest.{Cheapest, cheapest-law, cheapest-le}
 use Rattle.multipartition.proofs.Chosen.{chosen-is, none-chosen}
 use Rattle.multipartition.proofs.Jobs.{plan-of-passed, plan-answered}
 
@@ -31,16 +30,6 @@ unfolding cutCost
 uncut-free [] cuts = refl
 uncut-free (w ∷ weights) [] = refl
 uncut-free (w ∷ weights) (b ∷ cuts) = let later = uncut-free weights cuts in omega arith
-
-uncut-positive : (cuts : List ℕ) → Positive (uncut cuts)
-unfolding Positive
-uncut-positive [] = tt
-uncut-positive (b ∷ cuts) = (le-refl 1, uncut-positive cuts)
-
-uncut-atMost : (cuts : List ℕ) → Positive cuts → AtMost (uncut cuts) cuts
-unfolding Positive
-uncut-atMost [] h = tt
-uncut-atMost (b ∷ cuts) h = (h .0, uncut-atMost cuts (h .1))
 
 uncut-within : (most : List ℕ) → ((k : ℕ) → k < length most → 1 ≤ getD most k 0) → Within most (uncut most)
 uncut-within [] h = tt
@@ -64,13 +53,9 @@ lone-accepted job passed lone = go (cheapestFor job) refl
 pub lone-costs-nothing : (job : Job) (plan : Layout) → job .p ≡ 1 → planAnswer job ≡ answered plan → plan .cost ≡ 0
 lone-costs-nothing job plan lone e =
     let made = plan-answered job plan e in
-    let cheapest = sym (chosen-is job) ∙ made .cuts-are in
-    let within = cheapest-within (job .p) (job .extents) (job .weights) (plan .cuts) cheapest in
-    let positive = within-positive (job .extents) (plan .cuts) within in
-    let whole = within-of-atMost (job .extents) (plan .cuts) (uncut (plan .cuts)) within (uncut-atMost (plan .cuts) positive) (uncut-positive (plan .cuts)) in
-    let even = even-of-lone (job .p) (uncut (plan .cuts)) lone in
-    let low = cheapest-le (job .p) (job .extents) (job .weights) (plan .cuts) (uncut (plan .cuts)) cheapest whole even in
-    let free = uncut-free (job .weights) (plan .cuts) in
+    let low = cheapest-le (job .p) (job .extents) (job .weights) (plan .cuts) (uncut (job .extents)) (sym (chosen-is job) ∙ made .cuts-are)
+    (uncut-within (job .extents) (made .passed .range .extent-low)) (even-of-lone (job .p) (uncut (job .extents)) lone) in
+    let free = uncut-free (job .weights) (job .extents) in
     ap (λ (l : Layout). l .cost) (made .plan-is) ∙ omega (arith, low, free)
 
 -- ---- the former cost
