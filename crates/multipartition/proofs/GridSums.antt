@@ -13,7 +13,7 @@ use lib.ListN.{length, getD, length-reverse, List·getD-eq-default}
 use Rattle.numbers.specs.Products.{product}
 use Rattle.numbers.specs.Sums.{sum, indicator, same}
 use Rattle.numbers.proofs.Sums.{same-yes, same-no, sum-ext, sum-zero, sum-const, sum-mul-left, sum-swap, sum-split, sum-to}
-use Rattle.multipartition.specs.Lists.{startingWith, count}
+use Rattle.multipartition.specs.Lists.{startingWith, sumOver, count}
 use Rattle.multipartition.specs.Tiles.{Inside, positions}
 use Rattle.multipartition.specs.Rivals.{held}
 use Rattle.multipartition.proofs.Moduli.{othersDown}
@@ -85,44 +85,52 @@ unfolding total
 total-one [] = refl
 total-one (b ∷ cuts) = sum-cong b (λ i l. total-one cuts) ∙ sum-const b (product cuts)
 
--- ---- counts of positions are such sums
+-- ---- sums and counts over the list of all positions are such sums
 
-count-append : (test : List ℕ → Bool) (xs ys : List (List ℕ)) → count test (xs ++ ys) ≡ count test xs + count test ys
-unfolding count
-count-append test [] ys = sym (zero-add (count test ys))
-count-append test (x ∷ xs) ys =
-    ap (λ (n : ℕ). cond (test x) 1 0 + n) (count-append test xs ys) ∙ sym (add-assoc (cond (test x) 1 0) (count test xs) (count test ys))
+sumOver-append : (f : List ℕ → ℕ) (xs ys : List (List ℕ)) → sumOver f (xs ++ ys) ≡ sumOver f xs + sumOver f ys
+unfolding sumOver
+sumOver-append f [] ys = sym (zero-add (sumOver f ys))
+sumOver-append f (x ∷ xs) ys = ap (λ (n : ℕ). f x + n) (sumOver-append f xs ys) ∙ sym (add-assoc (f x) (sumOver f xs) (sumOver f ys))
 
-count-map : (test : List ℕ → Bool) (i : ℕ) (xs : List (List ℕ)) → count test (map (λ x. i ∷ x) xs) ≡ count (λ x. test (i ∷ x)) xs
-unfolding count
-count-map test i [] = refl
-count-map test i (x ∷ xs) = ap (λ (n : ℕ). cond (test (i ∷ x)) 1 0 + n) (count-map test i xs)
+sumOver-map : (f : List ℕ → ℕ) (i : ℕ) (xs : List (List ℕ)) → sumOver f (map (λ x. i ∷ x) xs) ≡ sumOver (λ x. f (i ∷ x)) xs
+unfolding sumOver
+sumOver-map f i [] = refl
+sumOver-map f i (x ∷ xs) = ap (λ (n : ℕ). f (i ∷ x) + n) (sumOver-map f i xs)
 
-count-starting : (test : List ℕ → Bool) (from n : ℕ) (xs : List (List ℕ))
-    → count test (startingWith from n xs) ≡ sum n (λ i. count (λ x. test ((from + i) ∷ x)) xs)
-unfolding startingWith sum count
-count-starting test from zero xs = refl
-count-starting test from (suc n) xs =
-    count-append test (map (λ x. from ∷ x) xs) (startingWith (suc from) n xs)
-    ∙ ap₂ _+_ (count-map test from xs ∙ ap (λ (i : ℕ). count (λ x. test (i ∷ x)) xs) (omega arith))
-    (count-starting test (suc from) n xs ∙ sum-cong n (λ i l. ap with (omega arith)))
+sumOver-starting : (f : List ℕ → ℕ) (from n : ℕ) (xs : List (List ℕ))
+    → sumOver f (startingWith from n xs) ≡ sum n (λ i. sumOver (λ x. f ((from + i) ∷ x)) xs)
+unfolding startingWith sum sumOver
+sumOver-starting f from zero xs = refl
+sumOver-starting f from (suc n) xs =
+    sumOver-append f (map (λ x. from ∷ x) xs) (startingWith (suc from) n xs)
+    ∙ ap₂ _+_ (sumOver-map f from xs ∙ ap with (omega arith))
+    (sumOver-starting f (suc from) n xs ∙ sum-cong n (λ i l. ap with (omega arith)))
     ∙ ap (λ (m : ℕ). m + sum n (λ i. with (from + (1 + i)))) (sym (zero-add (with (from + 0))))
     ∙ sym (sum-split 1 n (λ i. with (from + i)))
     ∙ sum-to (1 + n) (suc n) (λ i. with (from + i)) (omega arith)
   where
     with : ℕ → ℕ
-    with i = count (λ x. test (i ∷ x)) xs
+    with i = sumOver (λ x. f (i ∷ x)) xs
 
-pub count-positions : (cuts : List ℕ) (test : List ℕ → Bool) → count test (positions cuts) ≡ total cuts (λ x. indicator (test x))
-unfolding positions total count
-count-positions [] test = add-zero (cond (test []) 1 0) ∙ choose (test [])
+pub sumOver-positions : (cuts : List ℕ) (f : List ℕ → ℕ) → sumOver f (positions cuts) ≡ total cuts f
+unfolding positions total sumOver
+sumOver-positions [] f = add-zero (f [])
+sumOver-positions (b ∷ cuts) f =
+    sumOver-starting f 0 b (positions cuts)
+    ∙ sum-cong b (λ i l. ap (λ (j : ℕ). sumOver (λ x. f (j ∷ x)) (positions cuts)) (zero-add i) ∙ sumOver-positions cuts (λ x. f (i ∷ x)))
+
+-- a count is the sum of the test's indicator
+count-sum : (test : List ℕ → Bool) (xs : List (List ℕ)) → count test xs ≡ sumOver (λ x. indicator (test x)) xs
+unfolding count sumOver
+count-sum test [] = refl
+count-sum test (x ∷ xs) = ap₂ _+_ (choose (test x)) (count-sum test xs)
   where
     choose : (t : Bool) → cond t 1 0 ≡ indicator t
     choose true = refl
     choose false = refl
-count-positions (b ∷ cuts) test =
-    count-starting test 0 b (positions cuts)
-    ∙ sum-cong b (λ i l. ap (λ (j : ℕ). count (λ x. test (j ∷ x)) (positions cuts)) (zero-add i) ∙ count-positions cuts (λ x. test (i ∷ x)))
+
+pub count-positions : (cuts : List ℕ) (test : List ℕ → Bool) → count test (positions cuts) ≡ total cuts (λ x. indicator (test x))
+count-positions cuts test = count-sum test (positions cuts) ∙ sumOver-positions cuts (λ x. indicator (test x))
 
 -- how many tiles of a slab a processor owns, as a sum
 pub held-total : (cuts : List ℕ) (owner : List ℕ → ℕ) (k s q : ℕ)

@@ -11,6 +11,7 @@ pub mod Chains
 pub mod Moduli
 pub mod Rows
 pub mod GridSums
+pub mod SlabSums
 pub mod Peel
 pub mod Evenness
 pub mod Matrix

@@ -133,7 +133,7 @@ module _ (moduli : List ℕ) (matrix : List (List ℕ)) (positive : Positive mod
       (turned-inside up moduli (digitsOf moduli q) (columnOf k moduli matrix) positive)
 
   -- and the other direction leads back
-  next-owner-back : (q : ℕ) → q < product moduli → nextOwner moduli matrix k (not up) (nextOwner moduli matrix k up q) ≡ q
+  pub next-owner-back : (q : ℕ) → q < product moduli → nextOwner moduli matrix k (not up) (nextOwner moduli matrix k up q) ≡ q
   unfolding nextOwner
   next-owner-back q l =
       ap (λ (cs : List ℕ). numberFrom 0 moduli (turned (not up) moduli cs column))

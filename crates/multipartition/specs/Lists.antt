@@ -37,6 +37,11 @@ unfoldable pub startingWith : ℕ → ℕ → List (List ℕ) → List (List ℕ
 startingWith from zero xs = []
 startingWith from (suc n) xs = map (λ x. from ∷ x) xs ++ startingWith (suc from) n xs
 
+-- the sum of f over the lists
+unfoldable pub sumOver : (List ℕ → ℕ) → List (List ℕ) → ℕ
+sumOver f [] = 0
+sumOver f (x ∷ xs) = f x + sumOver f xs
+
 -- how many of the lists pass the test
 unfoldable pub count : (List ℕ → Bool) → List (List ℕ) → ℕ
 count test [] = 0

@@ -1,8 +1,9 @@
 -- The laws of bounded sums and of counts, which are sums of indicators.
 use mathlib.Core.Path.{_≡_, refl, sym, _∙_, ap, ap₂}
-use Prim.Native.Nat.{ℕ, zero, suc, _+_, _*_, _≤_, _<_}
+use Prim.Native.Nat.{ℕ, zero, suc, _+_, _-_, _*_, _≤_, _<_}
 use native.Mathlib.Nat.{le-step, not-suc-le-zero, lt-suc-self, add-zero, add-suc, add-assoc, zero-mul, mul-zero, add-comm}
 use native.Mathlib.Decide.{ℕ-discrete}
+use native.Mathlib.Numerals.{add-one}
 use native.Mathlib.Omega.{arith}
 use borrow.Author.Tests.{eq-eqb, ne-eqb}
 use Rattle.numbers.specs.Sums.{sum, indicator, same}
@@ -79,6 +80,19 @@ sum-split a zero f = ap (λ (n : ℕ). sum n f) (add-zero a) ∙ sym (add-zero (
 sum-split a (suc b) f =
     ap (λ (n : ℕ). sum n f) (add-suc a b) ∙ ap (λ (n : ℕ). n + f (a + b)) (sum-split a b f)
     ∙ add-assoc (sum a f) (sum b (λ i. f (a + i))) (f (a + b))
+
+-- one term more
+pub sum-add-one : (n : ℕ) (f : ℕ → ℕ) → sum (n + 1) f ≡ sum n f + f n
+unfolding sum
+sum-add-one n f = rw add-one
+
+-- the front of a sum, and each term of it, is at most the sum
+pub sum-front-le : (m n : ℕ) (f : ℕ → ℕ) → m ≤ n → sum m f ≤ sum n f
+sum-front-le m n f l = omega (arith, sum-to n (m + (n - m)) f (omega arith), sum-split m (n - m) f)
+
+pub sum-term-le : (n i : ℕ) (f : ℕ → ℕ) → i < n → f i ≤ sum n f
+unfolding sum
+sum-term-le n i f l = omega (arith, sum-front-le (suc i) n f l)
 
 -- the numbers below b that equal c: one, if c is below b
 pub count-none : (b c : ℕ) → b ≤ c → sum b (λ i. same i c) ≡ zero
