@@ -49,7 +49,7 @@ next-owner-first : (m : ℕ) (moduli row : List ℕ) (rows : List (List ℕ)) (k
 unfolding nextOwner turned digitsOf columnOf
 next-owner-first m moduli row rows k up q = number-first m moduli _
 
-turned-inside : (up : Bool) (moduli coordinates column : List ℕ) → Positive moduli → Inside moduli (turned up moduli coordinates column)
+pub turned-inside : (up : Bool) (moduli coordinates column : List ℕ) → Positive moduli → Inside moduli (turned up moduli coordinates column)
 unfolding turned Positive Inside
 turned-inside up [] coordinates column h = tt
 turned-inside up (m ∷ moduli) coordinates column h = (turn-below up m _ _ (h .0), turned-inside up moduli _ _ (h .1))
@@ -100,11 +100,11 @@ module _ (d : ℕ) (moduli matrix : List ℕ) (h : Reduced d moduli matrix) wher
       → drop i (rowsFrom d 0 d matrix) ≡ getD (rowsFrom d 0 d matrix) i [] ∷ drop (suc i) (rowsFrom d 0 d matrix)
   rows-from i l = drop-cons (rowsFrom d 0 d matrix) i [] (omega (arith, length-rows d 0 d matrix))
 
-  radix-last : radixAt d moduli d ≡ 1
+  pub radix-last : radixAt d moduli d ≡ 1
   unfolding radixAt
   radix-last = rw (drop-of-length-le (take d moduli) {i = d} (omega (arith, length-cut)))
 
-  radix-suc : (i : ℕ) → i < d → radixAt d moduli i ≡ radixAt d moduli (suc i) * getD moduli i 0
+  pub radix-suc : (i : ℕ) → i < d → radixAt d moduli i ≡ radixAt d moduli (suc i) * getD moduli i 0
   unfolding radixAt
   radix-suc i l = rw (moduli-from i l) (omega arith)
 

@@ -1,5 +1,7 @@
 // Who owns a tile position, and who is the neighbour of a processor: of a plan by value, or of a plan by its lists, lent, of which nothing is
 // copied.
+pub mod walks; // walks.rt: from neighbour to neighbour without a division
+
 use layout::Plan;
 ghost use mathlib.Core.Path.{_≡_};
 ghost use Prim.Native.Nat.{_%_, _*_, _<_, _≤_};

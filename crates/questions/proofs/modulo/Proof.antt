@@ -7,10 +7,10 @@ use Rattle.questions.proofs.modulo.Statement.{statement}
 use Rattle.questions.proofs.modulo.Tie as tie
 
 returns : tie.Need-returns
-returns c = sym (mod-eq-of-lt (c .if1 .taken))
+returns c = sym (mod-eq-of-lt (omega arith))
 
 returns-2 : tie.Need-returns-2
-returns-2 c = sym (mod-eq-sub-mod (c .if1 .left) ∙ mod-eq-of-lt (omega arith))
+returns-2 c = sym (mod-eq-sub-mod (omega arith) ∙ mod-eq-of-lt (omega arith))
 
 pub modulo-spec : {M : Type 1} → statement M
 modulo-spec = tie.close (tie.spec returns returns-2)
