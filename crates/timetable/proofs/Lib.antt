@@ -1,0 +1,11 @@
+pub mod Faces
+pub mod Answers
+pub mod Timetable
+pub mod Figures
+pub mod Rows
+pub mod Steps
+pub mod Tables
+pub mod Grids
+pub mod Lines
+pub mod Visits
+pub mod Tallies

@@ -1,0 +1,275 @@
+-- What the loops over thicknesses, weights and lines keep: products of thicknesses stay within those of the extents, and weights within one extent.
+use mathlib.Core.Path.{_≡_, refl, sym, ap, ap₂, _∙_, subst, subst⁻¹}
+use mathlib.Core.List.{List, [], _∷_}
+use mathlib.Core.Bool.{true, false}
+use Prim.Native.Nat.{ℕ, zero, suc, _+_, _-_, _*_, _≤_, _<_}
+use native.Mathlib.Nat.{not-suc-le-zero, le-of-suc-le-suc, le-refl, le-trans, mul-le-mul, one-mul, mul-one}
+use native.Mathlib.Decide.{ℕ-discrete}
+use native.Mathlib.Numerals.{add-one}
+use native.Mathlib.Omega.{arith}
+use lib.ListN.{length, getD, set, take, replicate, length-set, length-replicate}
+use lib.Seq.{getD-set-same, getD-set-other}
+use Rattle.numbers.specs.Products.{product}
+use Rattle.numbers.specs.Sums.{sum, same}
+use Rattle.numbers.proofs.Sums.{same-yes, same-no}
+use Rattle.multipartition.specs.Lists.{rest}
+use Rattle.multipartition.specs.Neighbours.{nextOwner}
+use Rattle.multipartition.specs.Rivals.{held}
+use Rattle.multipartition.specs.Slabs.{slabStart}
+use Rattle.multipartition.specs.Tiles.{Inside}
+use Rattle.multipartition.proofs.GridSums.{held-total}
+use Rattle.multipartition.proofs.MixedRadix.{first-at, rest-at}
+use Rattle.multipartition.proofs.SlabSums.{slabSum-total, slabSum-ext}
+use Rattle.multipartition.proofs.Slabs.{slab-start-last, slab-start-rises, slabs-in-order}
+use Rattle.layout.specs.declared.Plan.{Plan}
+use Rattle.layout.specs.Plans.{layoutOf}
+use Rattle.layout.specs.Shaped.{Shaped}
+use Rattle.layout.proofs.Lists.{product-add-one}
+use Rattle.questions.specs.declared.walks.Coordinated.{Coordinated}
+use Rattle.questions.specs.declared.walks.Stride.{Stride}
+use Rattle.questions.specs.Walks.{Stands, Strides, Steps}
+use Rattle.questions.proofs.Walking.{next-stands, next-below}
+use Rattle.timetable.specs.Faces.{thickness, thicknesses, faceOf, facesHeld}
+use Rattle.timetable.specs.Rows.{stepsOn, weightOf, Weighed, oneEach}
+use Rattle.timetable.proofs.Faces.{Cut, sum-thickness, held-faces}
+use Rattle.timetable.proofs.Rows.{length-thicknesses}
+
+-- ---- products of thicknesses
+
+thickness-at : (extents cuts x : List ℕ) (k : ℕ) → k < length cuts
+    → getD (thicknesses extents cuts x) k 0 ≡ thickness (getD extents k 0) (getD cuts k 0) (getD x k 0)
+unfolding thicknesses
+thickness-at extents [] x k l = absurd (not-suc-le-zero l)
+thickness-at extents (b ∷ cuts) x zero l = ap₂ (λ (n i : ℕ). thickness n b i) (first-at extents) (first-at x)
+thickness-at extents (b ∷ cuts) x (suc k) l =
+    thickness-at (rest extents) cuts (rest x) k (le-of-suc-le-suc l)
+    ∙ ap₂ (λ (n i : ℕ). thickness n (getD cuts k 0) i) (rest-at extents k) (rest-at x k)
+
+-- a slab is no thicker than its extent
+pub thickness-le : (n b s : ℕ) → 1 ≤ b → b ≤ n → s < b → thickness n b s ≤ n
+thickness-le n b s low high l = omega (arith, slabs-in-order n b low high (suc s) b l (le-refl b), slab-start-last n b low)
+
+-- no slab is empty
+thickness-low : (n b s : ℕ) → 1 ≤ b → b ≤ n → s < b → 1 ≤ thickness n b s
+thickness-low n b s low high l = omega (arith, slab-start-rises n b s low high l)
+
+-- b slabs of b elements start one after the other: they rise, from 0 to b
+start-at-least : (b s : ℕ) → 1 ≤ b → s ≤ b → s ≤ slabStart b b s
+start-at-least b zero low l = omega arith
+start-at-least b (suc s) low l = omega (arith, start-at-least b s low (omega arith), slab-start-rises b b s low (le-refl b) l)
+
+start-at-most : (b m s : ℕ) → 1 ≤ b → s + m ≡ b → slabStart b b s + m ≤ b
+start-at-most b zero s low e = let last : s ≡ b = omega arith in omega (arith, ap (slabStart b b) last, slab-start-last b b low)
+start-at-most b (suc m) s low e = omega (arith, start-at-most b m (suc s) low (omega arith), slab-start-rises b b s low (le-refl b) (omega arith))
+
+pub thickness-of-one : (b s : ℕ) → s < b → thickness b b s ≡ 1
+thickness-of-one b s l =
+    let low : 1 ≤ b = omega arith in
+    omega (
+      arith,
+      start-at-least b s low (omega arith),
+      start-at-most b (b - s) s low (omega arith),
+      start-at-least b (suc s) low l,
+      start-at-most b (b - suc s) (suc s) low (omega arith),
+    )
+
+-- one factor more
+pub volume-more : (extents cuts x : List ℕ) (k : ℕ) → k < length cuts
+    → product (take (k + 1) (thicknesses extents cuts x)) ≡ product (take k (thicknesses extents cuts x)) * thickness (getD extents k 0) (getD cuts k 0) (getD x k 0)
+volume-more extents cuts x k l =
+    product-add-one (thicknesses extents cuts x) k (subst⁻¹ (λ (n : ℕ). k < n) (length-thicknesses extents cuts x) l)
+    ∙ ap (λ (n : ℕ). product (take k (thicknesses extents cuts x)) * n) (thickness-at extents cuts x k l)
+
+-- a volume is at most the product of the extents, and not 0
+pub volume-le : (extents cuts x : List ℕ) (k : ℕ) → k ≤ length cuts → k ≤ length extents
+    → ((i : ℕ) → i < k → thickness (getD extents i 0) (getD cuts i 0) (getD x i 0) ≤ getD extents i 0)
+    → product (take k (thicknesses extents cuts x)) ≤ product (take k extents)
+volume-le extents cuts x zero l m h = le-refl 1
+volume-le extents cuts x (suc k) l m h =
+    rw (← add-one k, volume-more extents cuts x k l, product-add-one extents k m)
+    (mul-le-mul (volume-le extents cuts x k (omega arith) (omega arith) (λ i n. h i (omega arith))) (h k (omega arith)))
+
+pub volume-low : (extents cuts x : List ℕ) → length extents ≡ length cuts → Cut extents cuts → Inside cuts x → 1 ≤ product (thicknesses extents cuts x)
+unfolding thicknesses Inside
+volume-low [] [] x e h inside = le-refl 1
+volume-low [] (b ∷ cuts) x e h inside = absurd (omega arith)
+volume-low (n ∷ extents) [] x e h inside = absurd (omega arith)
+volume-low (n ∷ extents) (b ∷ cuts) [] e h inside = absurd inside
+volume-low (n ∷ extents) (b ∷ cuts) (i ∷ x) e h inside =
+    mul-le-mul (thickness-low n b i (h 0 (omega arith) .0) (h 0 (omega arith) .1) (inside .0))
+    (volume-low extents cuts x (omega arith) (λ j m. h (suc j) (omega arith)) (inside .1))
+
+-- with one element in every slab it is 1, with a dimension left out or not
+pub volume-of-ones : (cuts x : List ℕ) → Inside cuts x → product (thicknesses cuts cuts x) ≡ 1
+unfolding thicknesses Inside
+volume-of-ones [] x h = refl
+volume-of-ones (b ∷ cuts) [] h = absurd h
+volume-of-ones (b ∷ cuts) (i ∷ x) h = ap₂ _*_ (thickness-of-one b i (h .0)) (volume-of-ones cuts x (h .1))
+
+face-of-ones : (cuts x : List ℕ) (k : ℕ) → Inside cuts x → faceOf cuts cuts k x ≡ 1
+unfolding faceOf thicknesses Inside
+face-of-ones [] x k h = refl
+face-of-ones (b ∷ cuts) [] k h = absurd h
+face-of-ones (b ∷ cuts) (i ∷ x) zero h = volume-of-ones cuts x (h .1)
+face-of-ones (b ∷ cuts) (i ∷ x) (suc k) h = ap₂ _*_ (thickness-of-one b i (h .0)) (face-of-ones cuts x k (h .1))
+
+-- then faces are tiles
+pub faces-are-tiles : (cuts : List ℕ) (owner : List ℕ → ℕ) (k v q : ℕ) → v < getD cuts k 0 → facesHeld cuts cuts owner k v q ≡ held cuts owner k v q
+faces-are-tiles cuts owner k v q l =
+    held-faces cuts cuts owner k v q l
+    ∙ slabSum-ext k v cuts (λ x. same (owner x) q * faceOf cuts cuts k x) (λ x. same (owner x) q) l
+    (λ x w. ap (λ (n : ℕ). same (owner x) q * n) (face-of-ones cuts x k w) ∙ mul-one (same (owner x) q))
+    ∙ sym (slabSum-total k v cuts (λ x. same (owner x) q) l)
+    ∙ sym (held-total cuts owner k v q)
+
+-- ---- weights
+
+same-mul-le : (x y n : ℕ) → same x y * n ≤ n
+same-mul-le x y n = go (ℕ-discrete x y)
+  where
+    go : Dec (x ≡ y) → same x y * n ≤ n
+    go (yes e) = subst⁻¹ (λ (m : ℕ). m * n ≤ n) (same-yes x y e) (omega arith)
+    go (no f) = subst⁻¹ (λ (m : ℕ). m * n ≤ n) (same-no x y f) (omega arith)
+
+weight-le : (moduli : List ℕ) (matrix : List (List ℕ)) (j n b q m o : ℕ) → weightOf moduli matrix j n b q m o ≤ sum m (thickness n b)
+unfolding sum
+weight-le moduli matrix j n b q zero o = le-refl 0
+weight-le moduli matrix j n b q (suc m) o =
+    omega (arith, weight-le moduli matrix j n b q m o, same-mul-le (stepsOn moduli matrix j false m q) o (thickness n b m))
+
+-- with one slab more a weight is at most the extent
+pub weight-fits : (moduli : List ℕ) (matrix : List (List ℕ)) (j n b q m o : ℕ) → 1 ≤ b → b ≤ n → m < b
+    → weightOf moduli matrix j n b q m o + thickness n b m ≤ n
+weight-fits moduli matrix j n b q m o low high l =
+    omega (
+      arith,
+      weight-le moduli matrix j n b q m o,
+      sum-thickness n b m low high (omega arith),
+      slab-start-rises n b m low high l,
+      slabs-in-order n b low high (suc m) b l (le-refl b),
+      slab-start-last n b low,
+    )
+
+module _ (plan : Plan) (j q : ℕ) where
+  zeros : (n o : ℕ) → getD {A = ℕ} (replicate n 0) o 0 ≡ 0
+  zeros zero o = refl
+  zeros (suc n) zero = refl
+  zeros (suc n) (suc o) = zeros n o
+
+  pub weighed-none : Weighed plan j q 0 (replicate 4096 0)
+  unfolding sum
+  weighed-none = record { places = length-replicate {A = ℕ} 4096 0; weight = λ o l. zeros 4096 o }
+
+  pub weighed-more : (m o t : ℕ) (table : List ℕ) → o ≡ stepsOn (layoutOf plan .moduli) (layoutOf plan .matrix) j false m q → o < 4096
+      → t ≡ thickness (getD (plan .extents) j 0) (getD (plan .cuts) j 0) m → Weighed plan j q m table
+      → Weighed plan j q (m + 1) (set table o (getD table o 0 + t))
+  unfolding sum
+  weighed-more m o t table e l et w = record {
+    places = length-set table o (getD table o 0 + t) ∙ w .places;
+    weight = λ a h. subst⁻¹ (λ (n : ℕ). getD (set table o (getD table o 0 + t)) a 0 ≡ weights n a) (add-one m) (go a h (ℕ-discrete o a));
+  }
+    where
+      weights : ℕ → ℕ → ℕ
+      weights = weightOf (layoutOf plan .moduli) (layoutOf plan .matrix) j (getD (plan .extents) j 0) (getD (plan .cuts) j 0) q
+
+      step : ℕ
+      step = thickness (getD (plan .extents) j 0) (getD (plan .cuts) j 0) m
+
+      go : (a : ℕ) → a < 4096 → Dec (o ≡ a) → getD (set table o (getD table o 0 + t)) a 0 ≡ weights m a + same (stepsOn (layoutOf plan .moduli) (layoutOf plan .matrix) j false m q) a * step
+      go a h (yes z) =
+          ap (λ (n : ℕ). getD (set table o (getD table o 0 + t)) n 0) (sym z)
+          ∙ getD-set-same table o (getD table o 0 + t) 0 (subst⁻¹ (λ (n : ℕ). o < n) (w .places) l)
+          ∙ ap₂ _+_ (ap (λ (n : ℕ). getD table n 0) z ∙ w .weight a h)
+          (et ∙ sym (one-mul step) ∙ ap (λ (n : ℕ). n * step) (sym (same-yes (stepsOn (layoutOf plan .moduli) (layoutOf plan .matrix) j false m q) a (sym e ∙ z))))
+      go a h (no f) =
+          getD-set-other table o a (getD table o 0 + t) 0 (λ z. f (sym z))
+          ∙ w .weight a h
+          ∙ nothing (weights m a)
+          ∙ ap (λ (n : ℕ). weights m a + n * step) (sym (same-no (stepsOn (layoutOf plan .moduli) (layoutOf plan .matrix) j false m q) a (λ z. f (e ∙ z))))
+        where
+          nothing : (n : ℕ) → n ≡ n + 0 * step
+          nothing n = omega arith
+
+-- ---- a table of counts: the weights with one element in every slab
+
+module _ (plan : Plan) (j q m o : ℕ) (table : List ℕ) (small : o < 4096) (more : m < getD (plan .cuts) j 0) where
+  pub counted-fits : Weighed (oneEach plan) j q m table → getD table o 0 + 1 ≤ getD (plan .cuts) j 0
+  unfolding oneEach
+  counted-fits w =
+      omega (
+        arith,
+        w .weight o small,
+        weight-fits (layoutOf (oneEach plan) .moduli) (layoutOf (oneEach plan) .matrix) j (getD (plan .cuts) j 0) (getD (plan .cuts) j 0) q m o (omega arith) (le-refl _) more,
+        thickness-of-one (getD (plan .cuts) j 0) m more,
+      )
+
+  pub counted-more : o ≡ stepsOn (layoutOf plan .moduli) (layoutOf plan .matrix) j false m q → Weighed (oneEach plan) j q m table
+      → Weighed (oneEach plan) j q (m + 1) (set table o (getD table o 0 + 1))
+  unfolding oneEach layoutOf
+  counted-more e w = weighed-more (oneEach plan) j q m o 1 table e small (sym (thickness-of-one (getD (plan .cuts) j 0) m more)) w
+
+-- ---- both tables as they are filled
+
+-- for the first t slabs, with the walk down from q and where the next slab starts
+pub record Sharing (plan : Plan) (j q t : ℕ) (weights counts : List ℕ) (at : Coordinated) (first : ℕ) : Type 0 where
+  pub stands : Stands plan (stepsOn (layoutOf plan .moduli) (layoutOf plan .matrix) j false t q) at
+  pub below : stepsOn (layoutOf plan .moduli) (layoutOf plan .matrix) j false t q < plan .p
+  pub first-is : first ≡ slabStart (getD (plan .extents) j 0) (getD (plan .cuts) j 0) t
+  pub weighed : Weighed plan j q t weights
+  pub counted : Weighed (oneEach plan) j q t counts
+
+module _ (plan : Plan) (s : Shaped plan) (j : ℕ) (lj : j < plan .d) (q : ℕ) (lq : q < plan .p) where
+  pub sharing-none : (weights counts : List ℕ) (at : Coordinated) (first : ℕ) → Stands plan q at
+      → first ≡ slabStart (getD (plan .extents) j 0) (getD (plan .cuts) j 0) 0 → Weighed plan j q 0 weights → Weighed (oneEach plan) j q 0 counts
+      → Sharing plan j q 0 weights counts at first
+  unfolding stepsOn
+  sharing-none weights counts at first stands e w u = record { stands = stands; below = lq; first-is = e; weighed = w; counted = u }
+
+  module _ (t : ℕ) (l : t < getD (plan .cuts) j 0) (weights counts : List ℕ) (at : Coordinated) (first : ℕ) (w : Sharing plan j q t weights counts at first)
+      (after : ℕ) (e : after ≡ slabStart (getD (plan .extents) j 0) (getD (plan .cuts) j 0) (t + 1)) where
+    abbrev o : ℕ
+    o = stepsOn (layoutOf plan .moduli) (layoutOf plan .matrix) j false t q
+
+    small : o < 4096
+    small = le-trans (w .below) (s .p-high)
+
+    after-is : after ≡ slabStart (getD (plan .extents) j 0) (getD (plan .cuts) j 0) (suc t)
+    after-is = e ∙ ap (slabStart (getD (plan .extents) j 0) (getD (plan .cuts) j 0)) (add-one t)
+
+    side : after - first ≡ thickness (getD (plan .extents) j 0) (getD (plan .cuts) j 0) t
+    side = ap₂ _-_ after-is (w .first-is)
+
+    pub sharing-rises : first ≤ after
+    sharing-rises =
+        omega (arith, after-is, w .first-is, slab-start-rises (getD (plan .extents) j 0) (getD (plan .cuts) j 0) t (s .cut-low j lj) (s .cut-fits j lj) l)
+
+    pub weight-asked : (at .number < length weights) × (getD weights (at .number) 0 + (after - first) ≤ 4294967295)
+    weight-asked =
+        rw (w .stands .number-is, w .weighed .places) (
+          small,
+          omega (
+            arith,
+            side,
+            w .weighed .weight o small,
+            weight-fits (layoutOf plan .moduli) (layoutOf plan .matrix) j (getD (plan .extents) j 0) (getD (plan .cuts) j 0) q t o (s .cut-low j lj) (s .cut-fits j lj) l,
+            s .extent-high j lj,
+          ),
+        )
+
+    pub count-asked : (at .number < length counts) × (getD counts (at .number) 0 + 1 ≤ 4294967295)
+    count-asked =
+        rw (w .stands .number-is, w .counted .places) (small, omega (arith, counted-fits plan j q t o counts small l (w .counted), s .cut-high j lj))
+
+    pub sharing-more : (down : Stride) (to : Coordinated) → Strides plan j false down → Steps down at to
+        → Sharing plan j q (t + 1) (set weights (at .number) (getD weights (at .number) 0 + (after - first))) (set counts (at .number) (getD counts (at .number) 0 + 1)) to after
+    unfolding stepsOn
+    sharing-more down to strides steps = record {
+      stands = subst (λ (n : ℕ). Stands plan n to) onward (next-stands plan s j lj false down strides o at (w .stands) to steps);
+      below = subst (λ (n : ℕ). n < plan .p) onward (next-below plan s j lj false o);
+      first-is = e;
+      weighed = weighed-more plan j q t (at .number) (after - first) weights (w .stands .number-is) (subst⁻¹ (λ (n : ℕ). n < 4096) (w .stands .number-is) small) side (w .weighed);
+      counted = counted-more plan j q t (at .number) counts (subst⁻¹ (λ (n : ℕ). n < 4096) (w .stands .number-is) small) l (w .stands .number-is) (w .counted);
+    }
+      where
+        onward : nextOwner (layoutOf plan .moduli) (layoutOf plan .matrix) j false o ≡ stepsOn (layoutOf plan .moduli) (layoutOf plan .matrix) j false (t + 1) q
+        onward = ap (λ (n : ℕ). stepsOn (layoutOf plan .moduli) (layoutOf plan .matrix) j false n q) (sym (add-one t))

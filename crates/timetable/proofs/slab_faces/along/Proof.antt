@@ -1,0 +1,169 @@
+-- `along` meets its contract: the walk stands at the processor t steps on, and the sums are those of the first t slabs.
+use mathlib.Core.Path.{_≡_, ap, _∙_}
+use Prim.Native.Nat.{ℕ, _-_, _≤_, _<_}
+use native.Mathlib.Nat.{lt-of-le-of-lt, le-trans, le-add-left}
+use mathlib.Core.Bool.{true}
+use native.Mathlib.Omega.{arith}
+use lib.Dec.{lit<}
+use lib.ListN.{getD}
+use Rattle.questions.proofs.Walking.{next-asked}
+use Rattle.timetable.specs.Rows.{lineOf, oneEach}
+use Rattle.timetable.proofs.Lines.{Walked, walked-none, walked-rises, walked-small, walked-faces-fit, walked-tiles-fit, walked-more}
+use borrow.Author.Needs.{needs}
+use Rattle.timetable.proofs.slab_faces.along.Statement.{statement}
+use Rattle.timetable.proofs.slab_faces.along.Tie as tie
+
+abbrev Inv-loop : tie.InvT-loop
+Inv-loop c up weights counts grid b at₀ first₀ faces₀ tiles₀ t₀ at first faces tiles t = (t ≤ b) × Walked grid c weights counts (at₀ .number) t at first faces tiles
+
+abbrev μ-loop : tie.MeasureT-loop
+μ-loop c up weights counts grid b at₀ first₀ faces₀ tiles₀ t₀ at first faces tiles t = b - t
+
+mul-b : tie.Need-mul-b Inv-loop μ-loop
+mul-b c = search needs
+
+element-copy-out-b : tie.Need-element-copy-out-b Inv-loop μ-loop
+element-copy-out-b c = search needs
+
+mul-start : tie.Need-mul-start Inv-loop μ-loop
+mul-start c = search needs
+
+element-copy-out-start : tie.Need-element-copy-out-start Inv-loop μ-loop
+element-copy-out-start c = search needs
+
+start-requires : tie.Need-start-requires Inv-loop μ-loop
+start-requires c κs = let s = c .before .before .before .before in (s .pre .2 .shape .extent-high (s .args .c) (s .pre .2 .along), s .pre .2 .shape .cut-low (s .args .c) (s .pre .2 .along), s .pre .2 .shape .cut-high (s .args .c) (s .pre .2 .along), omega arith)
+
+loop-holds : tie.Need-loop-holds Inv-loop μ-loop
+loop-holds c = let s = c .before .before .before .before .before in (omega arith, walked-none (s .args .t1) (s .pre .2 .shape) (s .args .c) (s .pre .2 .along) (s .args .weights .now) (s .args .counts .now) (s .args .from .number) (s .pre .2 .processor) (s .args .from) (c .start .result) (s .pre .0) (c .start .ensures))
+
+mul-start-2 : tie.Need-mul-start-2 Inv-loop μ-loop
+mul-start-2 c = search needs
+
+element-copy-out-start-2 : tie.Need-element-copy-out-start-2 Inv-loop μ-loop
+element-copy-out-start-2 c = search needs
+
+add-start : tie.Need-add-start Inv-loop μ-loop
+add-start c = let s = c .before .before .before .before .before .before .before .before in record { fits = omega (arith, s .pre .2 .shape .cut-high (s .args .c) (s .pre .2 .along)) }
+
+start-requires-2 : tie.Need-start-requires-2 Inv-loop μ-loop
+start-requires-2 c κs = let s = c .before .before .before .before .before .before .before .before in (s .pre .2 .shape .extent-high (s .args .c) (s .pre .2 .along), s .pre .2 .shape .cut-low (s .args .c) (s .pre .2 .along), s .pre .2 .shape .cut-high (s .args .c) (s .pre .2 .along), omega arith)
+
+cast-o : tie.Need-cast-o Inv-loop μ-loop
+cast-o c = search needs
+
+sub-faces : tie.Need-sub-faces Inv-loop μ-loop
+sub-faces c =
+    let s = c .before .before .before .before .before .before .before .before .before .before in
+    let l = c .before .before .before .before .loop in
+    walked-rises (s .args .t1) (s .pre .2 .shape) (s .args .c) (s .pre .2 .along) (s .args .weights .now) (s .args .counts .now) (s .args .from .number) (s .pre .2 .processor) (l .t) (omega arith) (l .at) (l .first) (l .faces) (l .tiles) (l .inv .1) (c .before .start2 .result) (c .before .start2 .ensures)
+
+mul-faces : tie.Need-mul-faces Inv-loop μ-loop
+mul-faces c =
+    let small = let s = c .before .before .before .before .before .before .before .before .before .before in
+    let l = c .before .before .before .before .loop in
+    walked-small (s .args .t1) (s .pre .2 .shape) (s .args .c) (s .pre .2 .along) (s .args .weights .now) (s .args .counts .now) (s .args .from .number) (s .pre .2 .processor) (l .t) (omega arith) (l .at) (l .first) (l .faces) (l .tiles) (l .inv .1) (c .before .start2 .result) (c .before .start2 .ensures) in
+    record { fits = omega (arith, small) }
+
+shared-slice-read-faces : tie.Need-shared-slice-read-faces Inv-loop μ-loop
+shared-slice-read-faces c =
+    let small = let s = c .before .before .before .before .before .before .before .before .before .before .before in
+    let l = c .before .before .before .before .before .loop in
+    walked-small (s .args .t1) (s .pre .2 .shape) (s .args .c) (s .pre .2 .along) (s .args .weights .now) (s .args .counts .now) (s .args .from .number) (s .pre .2 .processor) (l .t) (omega arith) (l .at) (l .first) (l .faces) (l .tiles) (l .inv .1) (c .before .before .start2 .result) (c .before .before .start2 .ensures) in
+    omega (arith, small, (c .before .before .before .before .before .before .before .before .before .before .before) .pre .2 .places)
+
+mul-faces-2 : tie.Need-mul-faces-2 Inv-loop μ-loop
+mul-faces-2 c =
+    let fits = let s = c .before .before .before .before .before .before .before .before .before .before .before in
+    let l = c .before .before .before .before .before .loop in
+    walked-faces-fit (s .args .t1) (s .pre .2 .shape) (s .args .c) (s .pre .2 .along) (s .args .weights .now) (s .args .counts .now) (s .args .from .number) (s .pre .2 .processor) (l .t) (omega arith) (l .at) (l .first) (l .faces) (l .tiles) (l .inv .1) (c .before .before .start2 .result) (c .before .before .start2 .ensures) (s .pre .2 .fits) in
+    record { fits = lt-of-le-of-lt (le-trans (le-add-left _ _) fits) (lit< tt) }
+
+add-faces : tie.Need-add-faces Inv-loop μ-loop
+add-faces c = record {
+  fits = lt-of-le-of-lt (let s = c .before .before .before .before .before .before .before .before .before .before .before in
+      let l = c .before .before .before .before .before .loop in
+      walked-faces-fit (s .args .t1) (s .pre .2 .shape) (s .args .c) (s .pre .2 .along) (s .args .weights .now) (s .args .counts .now) (s .args .from .number) (s .pre .2 .processor) (l .t) (omega arith) (l .at) (l .first) (l .faces) (l .tiles) (l .inv .1) (c .before .before .start2 .result) (c .before .before .start2 .ensures) (s .pre .2 .fits)) (lit< tt);
+}
+
+mul-tiles : tie.Need-mul-tiles Inv-loop μ-loop
+mul-tiles c =
+    let small = let s = c .before .before .before .before .before .before .before .before .before .before .before in
+    let l = c .before .before .before .before .before .loop in
+    walked-small (s .args .t1) (s .pre .2 .shape) (s .args .c) (s .pre .2 .along) (s .args .weights .now) (s .args .counts .now) (s .args .from .number) (s .pre .2 .processor) (l .t) (omega arith) (l .at) (l .first) (l .faces) (l .tiles) (l .inv .1) (c .before .before .start2 .result) (c .before .before .start2 .ensures) in
+    record { fits = omega (arith, small) }
+
+shared-slice-read-tiles : tie.Need-shared-slice-read-tiles Inv-loop μ-loop
+shared-slice-read-tiles c =
+    let small = let s = c .before .before .before .before .before .before .before .before .before .before .before .before in
+    let l = c .before .before .before .before .before .before .loop in
+    walked-small (s .args .t1) (s .pre .2 .shape) (s .args .c) (s .pre .2 .along) (s .args .weights .now) (s .args .counts .now) (s .args .from .number) (s .pre .2 .processor) (l .t) (omega arith) (l .at) (l .first) (l .faces) (l .tiles) (l .inv .1) (c .before .before .before .start2 .result) (c .before .before .before .start2 .ensures) in
+    omega (arith, small, (c .before .before .before .before .before .before .before .before .before .before .before .before) .pre .3 .places)
+
+add-tiles : tie.Need-add-tiles Inv-loop μ-loop
+unfolding oneEach
+add-tiles c = record {
+  fits = lt-of-le-of-lt (let s = c .before .before .before .before .before .before .before .before .before .before .before .before in
+      let l = c .before .before .before .before .before .before .loop in
+      walked-tiles-fit (s .args .t1) (s .pre .2 .shape) (s .args .c) (s .pre .2 .along) (s .args .weights .now) (s .args .counts .now) (s .args .from .number) (s .pre .2 .processor) (l .t) (omega arith) (l .at) (l .first) (l .faces) (l .tiles) (l .inv .1) (c .before .before .before .start2 .result) (c .before .before .before .start2 .ensures) (s .pre .3 .fits)) (lit< tt);
+}
+
+next-requires : tie.Need-next-requires Inv-loop μ-loop
+next-requires c κs =
+    let s = c .before .before .before .before .before .before .before .before .before .before .before .before in
+    let l = c .before .before .before .before .before .before .loop in
+    next-asked (s .args .t1) (s .pre .2 .shape) (s .args .c) (s .pre .2 .along) true (s .args .up) (s .pre .1) _ (l .at) (l .inv .1 .stands)
+
+add-t : tie.Need-add-t Inv-loop μ-loop
+add-t c = let s = c .before .before .before .before .before .before .before .before .before .before .before .before .before in record { fits = omega (arith, s .pre .2 .shape .cut-high (s .args .c) (s .pre .2 .along)) }
+
+loop-less : tie.Need-loop-less Inv-loop μ-loop
+loop-less c = search needs
+
+loop-again : tie.Need-loop-again Inv-loop μ-loop
+loop-again c = (
+  omega arith,
+  let s = c .before .before .before .before .before .before .before .before .before .before .before .before .before in
+      let l = c .before .before .before .before .before .before .before .loop in
+      walked-more (s .args .t1) (s .pre .2 .shape) (s .args .c) (s .pre .2 .along) (s .args .weights .now) (s .args .counts .now) (s .args .from .number) (s .pre .2 .processor) (l .t) (omega arith) (l .at) (l .first) (l .faces) (l .tiles) (l .inv .1) (c .before .before .before .before .start2 .result) (c .before .before .before .before .start2 .ensures) (s .args .up) (c .next .result) (s .pre .1) (c .next .ensures),
+)
+
+returns : tie.Need-returns Inv-loop μ-loop
+returns c =
+    let s = c .before .before .before .before .before .before .before in
+    let l = c .before .loop in
+    let all : l .t ≡ getD (s .args .t1 .cuts) (s .args .c) 0 = omega arith in (
+      l .inv .1 .faces-are ∙ ap (λ (n : ℕ). lineOf (s .args .t1) (s .args .c) (s .args .weights .now) n (s .args .from .number)) all,
+      l .inv .1 .tiles-are ∙ ap (λ (n : ℕ). lineOf (oneEach (s .args .t1)) (s .args .c) (s .args .counts .now) n (s .args .from .number)) all,
+    )
+
+pub along-spec : {M : Type 1} → statement M
+along-spec =
+    tie.close
+    (tie.spec
+    Inv-loop
+    μ-loop
+    mul-b
+    element-copy-out-b
+    mul-start
+    element-copy-out-start
+    start-requires
+    loop-holds
+    mul-start-2
+    element-copy-out-start-2
+    add-start
+    start-requires-2
+    cast-o
+    sub-faces
+    mul-faces
+    shared-slice-read-faces
+    mul-faces-2
+    add-faces
+    mul-tiles
+    shared-slice-read-tiles
+    add-tiles
+    next-requires
+    add-t
+    loop-less
+    loop-again
+    returns)
