@@ -1,13 +1,13 @@
-//! Document 01 with request a of document 02, written down a second time in plain Rust, to test the
-//! planner against.
+//! Document 01 with requests a and b of document 02, written down a second time in plain Rust, to
+//! test the planner against.
 //!
 //! Everything here follows the definitions literally and prefers the slow and obvious way:
 //! the cuts are found by trying all that fit (or, where there are too many, all elementary
 //! partitionings of source document 001, Figure 2), the matrix is worked out over whole numbers
-//! and reduced at the end, chains are made from each processor's list of tiles, and the place of
-//! refusal 10 is looked for beginning by beginning.
+//! and reduced at the end, chains are made from each processor's list of tiles, the timetable looks
+//! at every tile of a slab, and the place of refusal 10 is looked for beginning by beginning.
 //!
-//! The modules stand in document 01's order.
+//! The modules stand in document 01's order, the timetable behind what it asks.
 
 pub mod numbers;
 pub mod refusal;
@@ -21,6 +21,8 @@ pub mod neighbours;
 pub mod owners;
 pub mod slabs;
 pub mod tiles;
+
+pub mod timetable;
 
 pub mod print;
 pub mod text;

@@ -33,12 +33,15 @@ pub const NO_CUTS: Refusal = Refusal::plain(5);
 pub const SHAPE: Refusal = Refusal::plain(6);
 /// Dimension not 1..d.
 pub const DIMENSION: Refusal = Refusal::plain(7);
-/// Slab, element, tile number, position coordinate or processor number out of range.
+/// Slab, element, tile number, position coordinate or processor number out of range; also "a step not
+/// below bk" (document 02, b).
 pub const RANGE: Refusal = Refusal::plain(8);
 /// A chain list of another length than stated.
 pub const LIST: Refusal = Refusal::plain(9);
 /// Unreadable line; the place is defined in "The printed plan".
 pub const TEXT: u32 = 10;
+/// "The product of the other extents is above 4,294,967,295" (document 02, b).
+pub const OTHER_EXTENTS: Refusal = Refusal::plain(11);
 
 /// "d: 2 to 5."
 pub fn dimensions_in_range(d: u32) -> bool {
