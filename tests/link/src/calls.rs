@@ -79,6 +79,17 @@ extern "C" {
         answer_length: usize,
     ) -> u64;
 
+    fn multipartition_timetable(
+        plan: *const u32,
+        plan_length: usize,
+        dimension: u32,
+        up: u32,
+        step: u32,
+        processor: u32,
+        answer: *mut u32,
+        answer_length: usize,
+    ) -> u64;
+
     fn multipartition_chains(
         plan: *const u32,
         plan_length: usize,
@@ -191,6 +202,28 @@ pub fn step(plan: &[u32], position: &[u32], dimension: u32, up: u32, answer: &mu
             position.len(),
             dimension,
             up,
+            answer.as_mut_ptr(),
+            answer.len(),
+        )
+    }
+}
+
+pub fn timetable(
+    plan: &[u32],
+    dimension: u32,
+    up: u32,
+    step: u32,
+    processor: u32,
+    answer: &mut [u32],
+) -> u64 {
+    unsafe {
+        multipartition_timetable(
+            plan.as_ptr(),
+            plan.len(),
+            dimension,
+            up,
+            step,
+            processor,
             answer.as_mut_ptr(),
             answer.len(),
         )

@@ -2,6 +2,7 @@
 
 use oracle::plan::{plan_job, Plan};
 use oracle::refusal::{self, Refusal};
+use oracle::timetable::{self, Message};
 use oracle::{chains, neighbours, owners, slabs, tiles};
 
 use crate::calls;
@@ -44,6 +45,14 @@ fn outcome(answer: Result<Vec<u32>, Refusal>, lent: &[u32]) -> (u64, Vec<u32>) {
     }
 }
 
+/// A message in an answer list: 1, the other processor and the length, or three times 0 for nobody.
+fn places(message: Option<Message>) -> [u32; 3] {
+    match message {
+        Some(Message { processor, length }) => [1, processor, length],
+        None => [0; 3],
+    }
+}
+
 /// The independent answer to a question about a plan.
 fn answer(plan: &Plan, question: &Question) -> Result<Vec<u32>, Refusal> {
     let numbers = match *question {
@@ -71,6 +80,16 @@ fn answer(plan: &Plan, question: &Question) -> Result<Vec<u32>, Refusal> {
             Some(moved) => [vec![1], moved].concat(),
             None => vec![0; 1 + plan.dimensions()],
         },
+        Question::Timetable {
+            dimension,
+            up,
+            step,
+            processor,
+        } => {
+            let visit = timetable::visit(plan, dimension, up != 0, step, processor)?;
+            let [sends, expects] = [visit.sends, visit.expects].map(places);
+            [&[visit.slab, visit.tiles][..], &sends, &expects].concat()
+        }
     };
     Ok(numbers)
 }
@@ -98,6 +117,12 @@ pub fn ask(lists: &mut Lists, list: &[u32], question: &Question, lent: &[u32]) -
         Question::Step { dimension, up, .. } => {
             calls::step(list, position, dimension, up, lent_list)
         }
+        Question::Timetable {
+            dimension,
+            up,
+            step,
+            processor,
+        } => calls::timetable(list, dimension, up, step, processor, lent_list),
     };
     assert_eq!(
         (returned, lent_list.to_vec()),

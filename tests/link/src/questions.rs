@@ -46,6 +46,12 @@ pub enum Question {
         dimension: u32,
         up: u32,
     },
+    Timetable {
+        dimension: u32,
+        up: u32,
+        step: u32,
+        processor: u32,
+    },
 }
 
 impl Question {
@@ -56,6 +62,7 @@ impl Question {
             Question::Neighbour { .. } | Question::Slab { .. } => 2,
             Question::TilePosition { .. } => d,
             Question::Step { .. } => 1 + d,
+            Question::Timetable { .. } => 8,
         }
     }
 
@@ -65,6 +72,7 @@ impl Question {
             Question::Owner { .. }
             | Question::TileNumber { .. }
             | Question::TilePosition { .. } => &[0, 6, 8, 9],
+            Question::Timetable { .. } => &[0, 6, 7, 8, 9, 11],
             _ => &[0, 6, 7, 8, 9],
         }
     }
@@ -241,6 +249,53 @@ fn tile(random: &mut Random, list: &[u32]) -> u32 {
     }
 }
 
+/// How many tiles each slab of the dimension at place k has.
+pub fn tiles_in_slab(plan: &Plan, k: usize) -> u128 {
+    let others = (0..plan.dimensions()).filter(|&j| j != k);
+    others.map(|j| u128::from(plan.cuts[j])).product()
+}
+
+/// Whether the slabs of the dimension at place k have few enough tiles to look at each of them. A list out of order
+/// asks for no such look.
+fn few_tiles(list: &[u32], k: usize) -> bool {
+    let in_shape = plan_of(list).filter(|plan| plan.check_shape().is_ok());
+    in_shape.is_none_or(|plan| tiles_in_slab(&plan, k) <= 500)
+}
+
+/// Changes an extent other than that at place k, if it can be, so that the product of these extents is as large as
+/// refusal 11 allows, or just too large.
+pub fn move_to_limit(random: &mut Random, plan: &mut Plan, k: usize) {
+    let d = plan.dimensions();
+    let j = (k + random.between(1, d as u64 - 1) as usize) % d;
+    let rest = (0..d).filter(|&i| i != j && i != k);
+    let product: u128 = rest.map(|i| u128::from(plan.extents[i])).product();
+    let extent = u128::from(u32::MAX) / product + u128::from(random.between(0, 1));
+    if (u128::from(plan.cuts[j])..=1_000_000).contains(&extent) {
+        plan.extents[j] = extent as u32;
+    }
+}
+
+/// A question about the timetable of the plan of a list.
+pub fn timetable(random: &mut Random, list: &[u32], dimension: u32) -> Question {
+    let k = place_of(dimension);
+    Question::Timetable {
+        dimension,
+        up: up(random),
+        step: mostly_below(random, place(list, CUTS + k)),
+        processor: mostly_below(random, place(list, PROCESSORS)),
+    }
+}
+
+/// The place of a dimension, counted from 0; any place for one that there is not.
+fn place_of(dimension: u32) -> usize {
+    (dimension as usize).clamp(1, 5) - 1
+}
+
+/// A direction: down, or one of the numbers that say up.
+fn up(random: &mut Random) -> u32 {
+    *random.pick(&[0, 0, 1, 1, 2, u32::MAX])
+}
+
 /// A question about the plan of a list, as if the list were in order.
 pub fn question(random: &mut Random, list: &[u32]) -> Question {
     let d = dimensions(list) as u32;
@@ -249,9 +304,9 @@ pub fn question(random: &mut Random, list: &[u32]) -> Question {
     } else {
         random.between(1, u64::from(d.max(1))) as u32
     };
-    let k = (dimension as usize).clamp(1, 5) - 1;
-    let up = *random.pick(&[0, 0, 1, 1, 2, u32::MAX]);
-    match random.between(0, 6) {
+    let k = place_of(dimension);
+    let up = up(random);
+    match random.between(0, 7) {
         0 => Question::Owner {
             position: position(random, list),
         },
@@ -274,6 +329,7 @@ pub fn question(random: &mut Random, list: &[u32]) -> Question {
         5 => Question::TilePosition {
             tile: tile(random, list),
         },
+        6 if few_tiles(list, k) => timetable(random, list, dimension),
         _ => Question::Step {
             position: position(random, list),
             dimension,

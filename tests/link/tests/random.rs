@@ -7,11 +7,14 @@ use std::mem::discriminant;
 use link::calls;
 use link::compared::{ask, chain, plan, Lists};
 use link::guarded::ROOM;
-use link::plan_list::{list_of, plan_of, PlanList, DIMENSIONS, PLAN_LENGTH};
+use link::plan_list::{list_of, plan_of, PlanList, CUTS, DIMENSIONS, PLAN_LENGTH};
 use link::questions::{
-    any_numbers, dimensions, job, lent, made_by_hand, plan_list, planned, question,
+    any_numbers, dimensions, job, lent, made_by_hand, move_to_limit, plan_list, planned, question,
+    tiles_in_slab, timetable, Question,
 };
+use oracle::plan::Plan;
 use oracle::random::Random;
+use oracle::timetable::{other_extents, Message, Visit};
 
 /// How often each number is returned.
 #[derive(Debug, Default)]
@@ -45,9 +48,9 @@ fn questions() {
             *returns = question.returns();
         }
     }
-    assert_eq!(seen.len(), 7);
+    assert_eq!(seen.len(), 8);
     for (of_kind, returns) in seen.values() {
-        of_kind.check(returns, 20_000);
+        of_kind.check(returns, 15_000);
     }
 }
 
@@ -110,6 +113,168 @@ fn moved(list: &PlanList, position: &[u32], k: usize, up: u32) -> Option<Vec<u32
         }
         1 => Some(answer[1..].to_vec()),
         other => panic!("inside is {other}"),
+    }
+}
+
+/// A plan in shape, and the place of a dimension of it.
+fn in_shape(random: &mut Random, pool: &[Plan]) -> (Plan, usize) {
+    let plan = match random.between(0, 1) {
+        0 => random.pick(pool).clone(),
+        _ => made_by_hand(random),
+    };
+    let k = random.between(0, u64::from(plan.d) - 1) as usize;
+    (plan, k)
+}
+
+/// Timetables of slabs of many tiles, a few of them very many, and of grids at the limit of refusal 11.
+#[test]
+fn timetables() {
+    let mut random = Random::new(6);
+    let pool = planned(&mut random, 400);
+    let mut lists = Lists::default();
+    let mut seen = Seen::default();
+    let (mut large, mut largest_product, mut least_refused) = (0, 0, 0);
+    for _ in 0..40_000 {
+        let (mut plan, k) = in_shape(&mut random, &pool);
+        move_to_limit(&mut random, &mut plan, k);
+        if tiles_in_slab(&plan, k) > 2_000 {
+            if large == 40 {
+                continue;
+            }
+            large += 1;
+        }
+        let list = list_of(&plan);
+        let question = timetable(&mut random, &list, k as u32 + 1);
+        let lent = lent(&mut random, question.places(plan.dimensions()));
+        let returned = ask(&mut lists, &list, &question, &lent);
+        seen.note(returned);
+        match other_extents(&plan, k) {
+            4_294_000_000..=4_294_967_295 => largest_product += u32::from(returned == 0),
+            4_294_967_296..=4_296_000_000 => least_refused += u32::from(returned == 11),
+            _ => (),
+        }
+    }
+    seen.check(&[0, 8, 9, 11], 500);
+    assert_eq!(large, 40);
+    assert!(largest_product > 500, "{largest_product}");
+    assert!(least_refused > 500, "{least_refused}");
+}
+
+/// As many tiles as there may be, all of them in one slab, and the longest message.
+#[test]
+fn largest_timetables() {
+    let mut lists = Lists::default();
+    let mut list = [0; PLAN_LENGTH];
+    assert_eq!(
+        calls::plan(4096, 3, &[9, 4096, 5000], &[1; 3], &mut list),
+        0
+    );
+    list[CUTS..][..3].copy_from_slice(&[1, 4096, 4096]);
+    let question = |dimension, step, processor| Question::Timetable {
+        dimension,
+        up: 1,
+        step,
+        processor,
+    };
+    assert_eq!(ask(&mut lists, &list, &question(1, 0, 4095), &[77; 8]), 0);
+    assert_eq!(ask(&mut lists, &list, &question(2, 4094, 7), &[77; 8]), 0);
+
+    assert_eq!(calls::plan(1, 3, &[65535, 65537, 9], &[1; 3], &mut list), 0);
+    for cuts in [[1, 1, 3], [2, 3, 3], [64, 32, 9]] {
+        list[CUTS..][..3].copy_from_slice(&cuts);
+        let told = visit(&list, 3, 1, 1, 0);
+        let longest = Some(Message {
+            processor: 0,
+            length: u32::MAX,
+        });
+        assert_eq!((told.sends, told.expects), (longest, longest));
+        assert_eq!(ask(&mut lists, &list, &question(3, 1, 0), &[77; 8]), 0);
+    }
+}
+
+/// What the calls say of one step, held against what they say of the steps before and after: "what a processor sends
+/// after a step is exactly what its receiver expects before the next, and except after the last step the lengths of
+/// one step add up to the product of the other extents", also in plans made by hand.
+#[test]
+fn messages_meet() {
+    let mut random = Random::new(7);
+    let pool = planned(&mut random, 400);
+    let (mut by_planner, mut by_hand, mut large) = (0, 0, 0);
+    while by_planner + by_hand < 4_000 {
+        let (plan, k) = in_shape(&mut random, &pool);
+        let product = other_extents(&plan, k);
+        let in_slab = tiles_in_slab(&plan, k);
+        let work = u128::from(plan.p) * in_slab;
+        if product > u128::from(u32::MAX) || work > 5_000_000 {
+            continue;
+        }
+        if work > 20_000 {
+            if large == 12 {
+                continue;
+            }
+            large += 1;
+        }
+        let (list, last) = (list_of(&plan), plan.cuts[k] - 1);
+        let up = random.between(0, 1) as u32;
+        let step = random.between(0, u64::from(last)) as u32;
+        let even = pool.contains(&plan);
+        let (mut tiles, mut sent, mut expected) = (0, 0, 0);
+        for q in 0..plan.p {
+            let at = |step, processor| visit(&list, k as u32 + 1, up, step, processor);
+            let mine = |length| {
+                Some(Message {
+                    processor: q,
+                    length,
+                })
+            };
+            let told = at(step, q);
+            assert_eq!(told.slab, if up == 1 { step } else { last - step });
+            assert_eq!(told.sends.is_none(), step == last, "{plan:?}");
+            assert_eq!(told.expects.is_none(), step == 0, "{plan:?}");
+            if let Some(Message { processor, length }) = told.sends {
+                let expected = at(step + 1, processor).expects;
+                assert_eq!(expected, mine(length), "{plan:?}");
+                sent += u128::from(length);
+            }
+            if let Some(Message { processor, length }) = told.expects {
+                let sent = at(step - 1, processor).sends;
+                assert_eq!(sent, mine(length), "{plan:?}");
+                expected += u128::from(length);
+            }
+            if even {
+                // Which is tiles / (bk * p).
+                let share = in_slab / u128::from(plan.p);
+                assert_eq!(u128::from(told.tiles), share, "{plan:?}");
+            }
+            tiles += u128::from(told.tiles);
+        }
+        assert_eq!(tiles, in_slab, "{plan:?}");
+        assert_eq!(sent, if step == last { 0 } else { product }, "{plan:?}");
+        assert_eq!(expected, if step == 0 { 0 } else { product }, "{plan:?}");
+        if even {
+            by_planner += 1;
+        } else {
+            by_hand += 1;
+        }
+    }
+    assert!(by_planner > 1_000 && by_hand > 1_000 && large == 12);
+}
+
+/// What a processor does in one step. Nobody is three times 0.
+fn visit(list: &PlanList, dimension: u32, up: u32, step: u32, processor: u32) -> Visit {
+    let mut answer = [77; 8];
+    let returned = calls::timetable(list, dimension, up, step, processor, &mut answer);
+    assert_eq!(returned, 0, "{list:?}");
+    let message = |places: &[u32]| match *places {
+        [1, processor, length] => Some(Message { processor, length }),
+        [0, 0, 0] => None,
+        _ => panic!("{answer:?}"),
+    };
+    Visit {
+        slab: answer[0],
+        tiles: answer[1],
+        sends: message(&answer[2..5]),
+        expects: message(&answer[5..]),
     }
 }
 

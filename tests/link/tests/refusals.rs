@@ -1,7 +1,8 @@
-//! Every refusal through the link, in the order of document 01's table, and what a refusal leaves alone.
+//! Every refusal through the link, in the order of document 01's table and of document 02, and what a refusal leaves
+//! alone.
 
 use link::calls::{
-    chains, neighbour, owner, plan, slab, slab_of, step, tile_number, tile_position,
+    chains, neighbour, owner, plan, slab, slab_of, step, tile_number, tile_position, timetable,
 };
 use link::plan_list::{
     PlanList, CUTS, DIMENSIONS, EXTENTS, MATRIX, MODULI, PLAN_LENGTH, PROCESSORS, ROW_LENGTH,
@@ -54,6 +55,8 @@ fn plan_lists_of_another_length() {
         refused::<1>(6, |answer| tile_number(plan, &[0; 3], answer));
         refused::<3>(6, |answer| tile_position(plan, 1, answer));
         refused::<4>(6, |answer| step(plan, &[0; 3], 1, 1, answer));
+        refused::<8>(6, |answer| timetable(plan, 1, 1, 0, 0, answer));
+        refused::<0>(6, |answer| timetable(plan, 0, 1, 9, 9, answer));
         refused::<4>(6, |heads| chains(plan, heads, &mut [0; 8]));
         refused::<8>(6, |nexts| chains(plan, &mut [0; 4], nexts));
     }
@@ -90,6 +93,8 @@ fn plans_out_of_shape() {
         refused::<1>(6, |answer| tile_number(&list, &[0; 3], answer));
         refused::<3>(6, |answer| tile_position(&list, 1, answer));
         refused::<4>(6, |answer| step(&list, &[0; 3], 1, 1, answer));
+        refused::<8>(6, |answer| timetable(&list, 1, 1, 0, 0, answer));
+        refused::<0>(6, |answer| timetable(&list, 0, 1, 9, 9, answer));
         refused::<4>(6, |heads| chains(&list, heads, &mut [0; 8]));
         refused::<8>(6, |nexts| chains(&list, &mut [0; 4], nexts));
     }
@@ -140,6 +145,70 @@ fn seven_before_eight_before_nine() {
     refused::<9>(9, |nexts| chains(&list, &mut [0; 4], nexts));
 }
 
+/// The plan of a grid whose weights are 1.
+fn grid(p: u32, extents: &[u32]) -> PlanList {
+    let mut list = [7; PLAN_LENGTH];
+    let (d, weights) = (extents.len(), vec![1; extents.len()]);
+    assert_eq!(plan(p, d as u32, extents, &weights, &mut list), 0);
+    list
+}
+
+/// "11, the product of the other extents is above 4,294,967,295, after 7 and before 8; a step not below bk is an 8."
+#[test]
+fn seven_before_eleven_before_eight_before_nine() {
+    // Cuts 1 2 2; the product of the first two extents is 4,294,967,296.
+    let list = grid(2, &[65536, 65536, 2]);
+    for up in [0, 1, u32::MAX] {
+        for dimension in [0, 4, u32::MAX] {
+            refused::<0>(7, |answer| timetable(&list, dimension, up, 2, 2, answer));
+            refused::<8>(7, |answer| timetable(&list, dimension, up, 0, 0, answer));
+        }
+        for number in [2, u32::MAX] {
+            refused::<0>(11, |answer| timetable(&list, 3, up, number, 0, answer));
+            refused::<0>(11, |answer| timetable(&list, 3, up, 0, number, answer));
+            refused::<0>(8, |answer| timetable(&list, 2, up, number, 0, answer));
+            refused::<0>(8, |answer| timetable(&list, 2, up, 0, number, answer));
+            refused::<8>(8, |answer| timetable(&list, 2, up, number, 0, answer));
+            refused::<8>(8, |answer| timetable(&list, 2, up, 0, number, answer));
+        }
+        refused::<8>(11, |answer| timetable(&list, 3, up, 0, 0, answer));
+        refused::<0>(8, |answer| timetable(&list, 1, up, 1, 0, answer));
+        refused::<0>(9, |answer| timetable(&list, 2, up, 1, 1, answer));
+        refused::<7>(9, |answer| timetable(&list, 2, up, 1, 1, answer));
+        refused::<9>(9, |answer| timetable(&list, 2, up, 1, 1, answer));
+        refused::<16>(9, |answer| timetable(&list, 2, up, 1, 1, answer));
+    }
+}
+
+/// Extents at the limit of refusal 11, and products that 32, 64 and 96 bits do not hold.
+#[test]
+fn the_product_of_the_other_extents() {
+    let sent = |list: &PlanList| {
+        let mut answer = [77; 8];
+        assert_eq!(timetable(list, 3, 1, 0, 0, &mut answer), 0);
+        answer[2..5].to_vec()
+    };
+    assert_eq!(sent(&grid(2, &[65535, 65537, 2])), [1, 1, 2_147_450_880]);
+    assert_eq!(sent(&grid(2, &[1_000_000, 4294, 2])), [1, 1, 2_147_000_000]);
+    let over: [&[u32]; 5] = [
+        &[65536, 65536, 2],
+        &[1_000_000, 4295, 2],
+        &[1_000_000, 1_000_000, 2],
+        &[65536, 65536, 2, 65536, 65536],
+        &[1_000_000, 1_000_000, 2, 1_000_000, 1_000_000],
+    ];
+    for extents in over {
+        let list = grid(2, extents);
+        refused::<8>(11, |answer| timetable(&list, 3, 1, 0, 0, answer));
+    }
+    // Of an uncut dimension too; of a lone processor too.
+    let list = grid(2, &[1, 65536, 65536]);
+    assert_eq!(list[CUTS], 1);
+    refused::<8>(11, |answer| timetable(&list, 1, 1, 0, 0, answer));
+    let list = grid(1, &[65536, 65536, 65536]);
+    refused::<8>(11, |answer| timetable(&list, 2, 0, 0, 0, answer));
+}
+
 #[test]
 fn answers_of_the_first_example() {
     let list = planned();
@@ -165,6 +234,15 @@ fn answers_of_the_first_example() {
         (step(&list, &[1, 0, 1], 1, 1, &mut four), four),
         (0, [0; 4])
     );
+    let mut eight = [77; 8];
+    assert_eq!(
+        (timetable(&list, 1, 1, 0, 3, &mut eight), eight),
+        (0, [0, 1, 1, 1, 16, 0, 0, 0])
+    );
+    assert_eq!(
+        (timetable(&list, 1, 0, 1, 3, &mut eight), eight),
+        (0, [0, 1, 0, 0, 0, 1, 1, 16])
+    );
     let (mut heads, mut nexts) = ([77; 4], [77; 8]);
     assert_eq!(chains(&list, &mut heads, &mut nexts), 0);
     assert_eq!((heads, nexts), ([1, 2, 4, 3], [8, 7, 6, 5, 0, 0, 0, 0]));
@@ -176,4 +254,6 @@ fn an_uncut_dimension_has_no_neighbour() {
     assert_eq!(plan(5, 3, &[4, 9, 9], &[1; 3], &mut list), 0);
     let mut two = [77; 2];
     assert_eq!((neighbour(&list, 4, 1, 0, &mut two), two), (0, [0, 0]));
+    let (mut eight, told) = ([77; 8], [0, 5, 0, 0, 0, 0, 0, 0]);
+    assert_eq!((timetable(&list, 1, 0, 0, 4, &mut eight), eight), (0, told));
 }
