@@ -175,6 +175,64 @@ pub fn questions(seed: u64, count: usize) -> Vec<Question> {
         .collect()
 }
 
+/// A question to the timetable, to be answered.
+pub struct Visit {
+    pub plan: PlanList,
+    pub dimension: u32,
+    pub up: bool,
+    pub step: u32,
+    pub processor: u32,
+}
+
+/// Questions to the timetable. Its work grows with the lines of tiles in a slab, taken along the other dimension with
+/// the most slabs: 64 of them where there are 64 slabs each way, and many more in the other plans.
+pub fn sweeps() -> Vec<(&'static str, Vec<Visit>)> {
+    let planned = |p, extents: &[u32], weights: &[u32]| {
+        plan_job(p, extents.len() as u32, extents, weights).expect("the grid has cuts")
+    };
+    let cube = planned(4096, &[1000; 3], &[1; 3]);
+    // The most lines that the planner's plans of four and of five dimensions have in a slab, if the dimension swept
+    // is cut: 33,858 and 124,930.
+    let four = planned(3762, &[1000, 1000, 2, 1000], &[4, 6, 9, 5]);
+    let five = planned(4030, &[250, 250, 250, 2, 250], &[1; 5]);
+    // And if it is not cut: 257,985.
+    let uncut = planned(4095, &[1, 100, 100, 100, 100], &[1; 5]);
+    // 101,250, of even cuts that the planner never chooses: 2 45 45 2 45 are even too, and nowhere larger.
+    let mut by_hand = by_hand(4050, &[25, 81, 81, 2, 50]);
+    by_hand.extents = [250; 5];
+    vec![
+        ("timetable, cuts 64 64 64", visits(&cube, &[1, 2, 3])),
+        ("timetable, cuts 209 171 2 198", visits(&four, &[3])),
+        ("timetable, cuts 25 81 81 2 50", visits(&by_hand, &[4])),
+        ("timetable, cuts 31 62 65 2 65", visits(&five, &[4])),
+        ("timetable, cuts 1 63 63 65 65", visits(&uncut, &[1])),
+    ]
+}
+
+/// The first, a middle and the last step of a sweep each way, for some processors.
+fn visits(plan: &Plan, dimensions: &[u32]) -> Vec<Visit> {
+    let mut visits = Vec::new();
+    for &dimension in dimensions {
+        let cut = plan.cuts[dimension as usize - 1];
+        let mut steps = vec![0, cut / 2, cut - 1];
+        steps.dedup();
+        for step in steps {
+            for processor in [0, 1, plan.p / 2, plan.p - 1] {
+                for up in [true, false] {
+                    visits.push(Visit {
+                        plan: list_of(plan),
+                        dimension,
+                        up,
+                        step,
+                        processor,
+                    });
+                }
+            }
+        }
+    }
+    visits
+}
+
 /// Plans of 16,777,216 tiles.
 pub fn largest_grids() -> Vec<(&'static str, PlanList)> {
     let two = plan_job(4096, 2, &[4096; 2], &[1; 2]).expect("the grid of document 01");
@@ -208,13 +266,34 @@ fn by_hand(p: u32, cuts: &[u32]) -> Plan {
 #[cfg(test)]
 mod tests {
     use super::*;
-    use crate::plan_list::{in_shape, tiles};
+    use crate::plan_list::{in_shape, tiles, CUTS, DIMENSIONS};
+    use crate::subject::RIVAL;
 
     #[test]
     fn the_largest_grids_are_in_shape() {
         for (what, plan) in largest_grids() {
             assert!(in_shape(&plan), "{what}");
             assert_eq!(tiles(&plan), 16_777_216, "{what}");
+        }
+    }
+
+    #[test]
+    fn the_sweeps_have_the_cuts_of_their_names_and_are_answered() {
+        for (what, visits) in sweeps() {
+            for visit in visits {
+                let Visit {
+                    plan,
+                    dimension,
+                    up,
+                    step,
+                    processor,
+                } = visit;
+                let cuts = plan[CUTS..][..plan[DIMENSIONS] as usize].iter();
+                let words: Vec<String> = cuts.map(u32::to_string).collect();
+                assert_eq!(what, format!("timetable, cuts {}", words.join(" ")));
+                let told = (RIVAL.timetable)(&plan, dimension, up, step, processor, &mut [0; 8]);
+                assert_eq!(told, Ok(()), "{what}");
+            }
         }
     }
 }

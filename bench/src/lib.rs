@@ -11,4 +11,5 @@ pub mod plan_list;
 pub mod planning;
 pub mod questions;
 pub mod subject;
+pub mod timetable;
 pub mod timing;

@@ -49,5 +49,15 @@ pub const PROVED: Subject = Subject {
             answer,
         ))
     },
+    timetable: |plan, dimension, up, step, processor, answer| {
+        told(calls::timetable(
+            plan,
+            dimension,
+            u32::from(up),
+            step,
+            processor,
+            answer,
+        ))
+    },
     chains: |plan, heads, nexts| told(calls::chains(plan, heads, nexts)),
 };

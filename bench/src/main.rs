@@ -10,7 +10,7 @@ use std::hint::black_box;
 use std::path::Path;
 use std::process::{Command, ExitCode, Stdio};
 
-use bench::jobs::{self, Job, Question};
+use bench::jobs::{self, Job, Question, Visit};
 use bench::linked::PROVED;
 use bench::plan_list::PROCESSORS;
 use bench::planning;
@@ -49,6 +49,7 @@ fn main() -> ExitCode {
     planning_otherwise(repeats);
     longest_jobs();
     questions(repeats);
+    timetables(repeats);
     chains(repeats);
     if let Some(program) = &request.program {
         print_line(&largest_plan(program, repeats));
@@ -248,6 +249,40 @@ fn questions(repeats: usize) {
             what,
             Some(target),
             asked.len(),
+            repeats,
+            || all(&PROVED),
+            || all(&RIVAL),
+        ));
+    }
+}
+
+fn timetables(repeats: usize) {
+    let ask = |side: &Subject, asked: &Visit| {
+        let ask = black_box(side.timetable);
+        told([0; 8], |answer| {
+            ask(
+                &asked.plan,
+                asked.dimension,
+                asked.up,
+                asked.step,
+                asked.processor,
+                answer,
+            )
+        })
+    };
+    for (what, visits) in jobs::sweeps() {
+        for (at, visit) in visits.iter().enumerate() {
+            let same = ask(&PROVED, visit) == ask(&RIVAL, visit);
+            assert!(same, "{what}: question {at} is answered otherwise");
+        }
+        let all = |side: &Subject| {
+            let answers = visits.iter().map(|visit| ask(side, visit));
+            answers.fold(0, u64::wrapping_add)
+        };
+        print_line(&contest(
+            what,
+            Some(1.5),
+            visits.len(),
             repeats,
             || all(&PROVED),
             || all(&RIVAL),

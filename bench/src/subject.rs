@@ -1,7 +1,7 @@
 //! What is measured: the calls of one side, as functions over plain lists.
 
 use crate::plan_list::PlanList;
-use crate::{chains, planning, questions};
+use crate::{chains, planning, questions, timetable};
 
 /// A refusal's number, or nothing where the answer list has been written.
 pub type Told = Result<(), u32>;
@@ -11,6 +11,7 @@ pub type Planned = Result<PlanList, (u32, u32)>;
 
 pub type PlanCall = fn(u32, u32, &[u32], &[u32]) -> Planned;
 pub type StepCall = fn(&[u32], &[u32], u32, bool, &mut [u32]) -> Told;
+pub type TimetableCall = fn(&[u32], u32, bool, u32, u32, &mut [u32]) -> Told;
 
 /// The calls of one side. Another program is measured by one more value of this kind.
 #[derive(Clone, Copy)]
@@ -24,10 +25,12 @@ pub struct Subject {
     pub tile_number: fn(&[u32], &[u32], &mut [u32]) -> Told,
     pub tile_position: fn(&[u32], u32, &mut [u32]) -> Told,
     pub step: StepCall,
+    pub timetable: TimetableCall,
     pub chains: fn(&[u32], &mut [u32], &mut [u32]) -> Told,
 }
 
-/// The rival: the paper's enumeration (Figure 2, one factor inside the other), the questions with the same checks, and the fastest chains.
+/// The rival: the paper's enumeration (Figure 2, one factor inside the other), the questions with the same checks,
+/// the timetable by the same method, and the fastest chains.
 pub const RIVAL: Subject = Subject {
     name: "rival",
     plan: planning::figure_2_nested,
@@ -38,5 +41,6 @@ pub const RIVAL: Subject = Subject {
     tile_number: questions::tile_number,
     tile_position: questions::tile_position,
     step: questions::step,
+    timetable: timetable::timetable,
     chains: chains::chains,
 };
