@@ -3,3 +3,4 @@ pub mod Plans
 pub mod Answers
 pub mod Planning
 pub mod Positions
+pub mod Visits

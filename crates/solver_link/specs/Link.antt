@@ -12,6 +12,7 @@ use Rattle.multipartition.specs.Jobs.{planAnswer}
 use Rattle.multipartition.specs.Questions.{lengthCheck, ownerAnswer, neighbourAnswer, slabAnswer, slabOfAnswer, numberAnswer, positionAnswer, stepAnswer, chainsAnswer}
 use Rattle.layout.specs.declared.Plan.{Plan}
 use Rattle.layout.specs.Plans.{layoutOf, planOf}
+use Rattle.timetable.specs.Timetable.{Message, Visit, timetableAnswer}
 
 -- ---- plans
 
@@ -123,6 +124,21 @@ unfoldable pub stepLink : List ℕ → List ℕ → ℕ → ℕ → ℕ → Answ
 stepLink list position k up places =
     checked (planListCheck list ∷ [])
     (andThen (stepAnswer (layoutOf (planIn list)) position k (not (eqb up 0))) (λ next. into places (stepNumbers (length position) next)))
+
+-- 1, the processor and the length of a message, or three zeros for "no processor, length 0"
+abbrev pub messageNumbers : Message → List ℕ
+messageNumbers none = 0 ∷ 0 ∷ 0 ∷ []
+messageNumbers (some (processor, length)) = 1 ∷ processor ∷ length ∷ []
+
+-- a visit: the slab, how many tiles, what is sent afterwards, what is expected beforehand
+abbrev pub visitNumbers : Visit → List ℕ
+visitNumbers visit = visit .slab ∷ visit .tiles ∷ messageNumbers (visit .sends) ++ messageNumbers (visit .expects)
+
+-- the timetable of a sweep (document 02, request b); a direction other than 0 is up
+unfoldable pub timetableLink : List ℕ → ℕ → ℕ → ℕ → ℕ → ℕ → Answer (List ℕ)
+timetableLink list k up step q places =
+    checked (planListCheck list ∷ [])
+    (andThen (timetableAnswer (layoutOf (planIn list)) k (not (eqb up 0)) step q) (λ visit. into places (visitNumbers visit)))
 
 -- the chains, for lists of so many places
 unfoldable pub chainsLink : List ℕ → ℕ → ℕ → Answer (List ℕ × List ℕ)

@@ -13,8 +13,9 @@ use tiles::positions::TileNumber;
 use tiles::slabs;
 use tiles::slabs::Elements;
 use tiles::slabs::SlabNumber;
+use timetable::Visited;
 ghost use lib.ListN.{length};
-ghost use Rattle.solver_link.specs.Link.{planLink, ownerLink, neighbourLink, slabLink, slabOfLink, tileNumberLink, tilePositionLink, stepLink, chainsLink, Linked};
+ghost use Rattle.solver_link.specs.Link.{planLink, ownerLink, neighbourLink, slabLink, slabOfLink, tileNumberLink, tilePositionLink, stepLink, timetableLink, chainsLink, Linked};
 
 // Plans a job: the answer list gets the plan list.
 #[no_mangle]
@@ -181,6 +182,35 @@ pub extern "C" fn multipartition_step(
         Step::Inside => lists::put_step(answer, 1, next),
         Step::Edge => lists::put_step(answer, 0, edge),
         Step::Refused { number, place } => lists::joined(number, place),
+    }
+}
+
+// What a processor does at a step of the sweep along a dimension, up unless `up` is 0: the answer list gets the slab visited, how many tiles it works
+// on, and for what it sends afterwards and what it expects beforehand 1, the processor and the length, or three zeros for nobody.
+#[no_mangle]
+pub extern "C" fn multipartition_timetable(
+    plan: &[u32],
+    dimension: u32,
+    up: u32,
+    step: u32,
+    processor: u32,
+    answer: &mut [u32],
+) -> u64
+    ensures { λ r. ⌜ Linked (timetableLink (now (plan .entry)) dimension up step processor (length (now (answer .entry)))) (now (answer .entry)) r (now (answer .exit)) ⌝ }
+{
+    if plan.len() != lists::PLAN_LENGTH {
+        return 6;
+    }
+    let visited = timetable::visit_at(
+        lists::plan_in(plan),
+        dimension as usize,
+        up != 0,
+        step,
+        processor,
+    );
+    match visited {
+        Visited::At(visit) => lists::put_visit(answer, visit),
+        Visited::Refused { number, place } => lists::joined(number, place),
     }
 }
 

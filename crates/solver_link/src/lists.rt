@@ -5,6 +5,8 @@ use questions::Owner;
 use questions::neighbour_over;
 use questions::owner_over;
 use tiles::positions::Position;
+use timetable::Message;
+use timetable::Visit;
 ghost use mathlib.Core.List.{[], _∷_};
 ghost use mathlib.Core.Path.{_≡_};
 ghost use Prim.Native.Nat.{_+_, _*_, _≤_, _<_};
@@ -14,7 +16,8 @@ ghost use Rattle.multipartition.specs.Questions.{ownerAnswer, neighbourAnswer};
 ghost use Rattle.layout.specs.Plans.{layoutOf};
 ghost use Rattle.questions.specs.Told.{toldOwner, toldNeighbour};
 ghost use Rattle.tiles.specs.Positions.{coordinates, positionWith};
-ghost use Rattle.solver_link.specs.Link.{planIn, listOfPlan, planPlaces, into, Linked};
+ghost use Rattle.timetable.specs.Told.{toldMessage, toldVisit};
+ghost use Rattle.solver_link.specs.Link.{planIn, listOfPlan, planPlaces, into, messageNumbers, visitNumbers, Linked};
 
 // Where the parts of a plan list start, where the last of them ends, and how many places the list has.
 pub const DIMENSIONS: usize = 0;
@@ -233,6 +236,34 @@ pub fn put_step(answer: &mut [u32], inside: u32, position: Position) -> u64
     answer[0] = inside;
     let at = position.at;
     put_five(answer, 1, at[0], at[1], at[2], at[3], at[4]);
+    0
+}
+
+// Whether there is a message, with whom, and how long it is.
+fn message_numbers(message: Message) -> [u32; 3]
+    ensures { λ r. ⌜ r ≡ messageNumbers (toldMessage message) ⌝ }
+{
+    match message {
+        Message::Processor { processor, length } => [1, processor, length],
+        Message::Nobody => [0, 0, 0],
+    }
+}
+
+// A visit into an answer list, with the same refusal.
+pub fn put_visit(answer: &mut [u32], visit: Visit) -> u64
+    ensures { λ r. ⌜ Linked (into (length (now (answer .entry))) (visitNumbers (toldVisit visit))) (now (answer .entry)) r (now (answer .exit)) ⌝ }
+{
+    if answer.len() != 8 {
+        return 9;
+    }
+    let sends = visit.sends;
+    let expects = visit.expects;
+    let sent = message_numbers(sends);
+    let expected = message_numbers(expects);
+    let front = [visit.slab, visit.tiles];
+    put_part(answer, 0, &front);
+    put_part(answer, 2, &sent);
+    put_part(answer, 5, &expected);
     0
 }
 
