@@ -1,4 +1,4 @@
-// Runs the grids of document 01 that are not starred, and the examples beside its table, on the calls. What it prints is held to the file stdout.
+// Runs the grids of document 01 that are not starred, the examples beside its table, and figures of the timetable, on the calls. What it prints is held to the file stdout.
 // Each function writes its lines into a lent list from a place on, and answers the place after them.
 ghost use mathlib.Core.Path.{_≡_};
 ghost use lib.ListN.{length};
@@ -11,6 +11,9 @@ use questions::Owner;
 use tiles::positions::Lookup;
 use tiles::slabs::Elements;
 use tiles::slabs::SlabNumber;
+use timetable::Message;
+use timetable::Visit;
+use timetable::Visited;
 
 // A word, numbers and a line end.
 fn put_line(out: &mut [u8], at: usize, word: &[u8], numbers: &[u32]) -> usize
@@ -118,6 +121,49 @@ fn put_neighbour(
         }
         Neighbour::Nobody => numerals::put_bytes(out, at, b"neighbour none\n"),
         Neighbour::Refused { number, place } => put_refused(out, at, number, place),
+    }
+}
+
+fn put_message(out: &mut [u8], at: usize, word: &[u8], message: Message) -> usize
+    ensures { λ r. ⌜ length (now (out .exit)) ≡ length (now (out .entry)) ⌝ }
+{
+    let next = numerals::put_bytes(out, at, word);
+    match message {
+        Message::Processor { processor, length } => {
+            let numbers = [processor, length];
+            numerals::put_numbers(out, next, &numbers)
+        }
+        Message::Nobody => numerals::put_bytes(out, next, b"none\n"),
+    }
+}
+
+// The slab and the tiles of a visit, then what is sent and what is expected.
+fn put_visit(out: &mut [u8], at: usize, visit: Visit) -> usize
+    ensures { λ r. ⌜ length (now (out .exit)) ≡ length (now (out .entry)) ⌝ }
+{
+    let work = [visit.slab, visit.tiles];
+    let sends = visit.sends;
+    let expects = visit.expects;
+    let mut next = put_line(out, at, b"visit ", &work);
+    next = put_message(out, next, b"sends ", sends);
+    put_message(out, next, b"expects ", expects)
+}
+
+fn put_visited(
+    out: &mut [u8],
+    at: usize,
+    plan: Plan,
+    dimension: usize,
+    up: bool,
+    step: u32,
+    q: u32,
+) -> usize
+    ensures { λ r. ⌜ length (now (out .exit)) ≡ length (now (out .entry)) ⌝ }
+{
+    let visited = timetable::visit_at(plan, dimension, up, step, q);
+    match visited {
+        Visited::At(visit) => put_visit(out, at, visit),
+        Visited::Refused { number, place } => put_refused(out, at, number, place),
     }
 }
 
@@ -268,15 +314,91 @@ fn put_uncut(out: &mut [u8], at: usize) -> usize
     put_neighbour(out, next, planned.plan, 3, 2, false)
 }
 
+// A step along a dimension of the plan with weights 1, for processors 0 to 3.
+fn put_step(
+    out: &mut [u8],
+    at: usize,
+    p: u32,
+    extents: &[u32],
+    dimension: usize,
+    up: bool,
+    step: u32,
+) -> usize
+    ensures { λ r. ⌜ length (now (out .exit)) ≡ length (now (out .entry)) ⌝ }
+{
+    let ones = [1u32; 3];
+    let planned = planner::plan_job(p, 3, extents, &ones);
+    let mut next = put_visited(out, at, planned.plan, dimension, up, step, 0);
+    next = put_visited(out, next, planned.plan, dimension, up, step, 1);
+    next = put_visited(out, next, planned.plan, dimension, up, step, 2);
+    put_visited(out, next, planned.plan, dimension, up, step, 3)
+}
+
+// 4 processors on 8 8 8: both steps up dimension 1, a step down it, and the step after the last.
+fn put_cube_steps(out: &mut [u8], at: usize) -> usize
+    ensures { λ r. ⌜ length (now (out .exit)) ≡ length (now (out .entry)) ⌝ }
+{
+    let eights = [8u32, 8, 8];
+    let mut next = put_step(out, at, 4, &eights, 1, true, 0);
+    next = put_step(out, next, 4, &eights, 1, true, 1);
+    next = put_step(out, next, 4, &eights, 1, false, 0);
+    put_step(out, next, 4, &eights, 1, true, 2)
+}
+
+// Tiles of unlike thickness: 6 processors on 9 9 9, and 4 on 5 7 9.
+fn put_unlike_steps(out: &mut [u8], at: usize) -> usize
+    ensures { λ r. ⌜ length (now (out .exit)) ≡ length (now (out .entry)) ⌝ }
+{
+    let nines = [9u32, 9, 9];
+    let unlike = [5u32, 7, 9];
+    let mut next = put_step(out, at, 6, &nines, 2, true, 0);
+    next = put_step(out, next, 6, &nines, 2, true, 1);
+    next = put_step(out, next, 4, &unlike, 3, true, 0);
+    put_step(out, next, 4, &unlike, 1, true, 0)
+}
+
+// 2 processors on m n 2, along dimension 3, where the product of the other extents is at the limit of 32 bits: processors 2 and 3 are not there.
+fn put_limits(out: &mut [u8], at: usize) -> usize
+    ensures { λ r. ⌜ length (now (out .exit)) ≡ length (now (out .entry)) ⌝ }
+{
+    let above = [65536u32, 65536, 2];
+    let below = [65535u32, 65537, 2];
+    let long_above = [1000000u32, 4295, 2];
+    let long_below = [1000000u32, 4294, 2];
+    let mut next = put_step(out, at, 2, &above, 3, true, 0);
+    next = put_step(out, next, 2, &below, 3, true, 0);
+    next = put_step(out, next, 2, &long_above, 3, true, 0);
+    put_step(out, next, 2, &long_below, 3, true, 0)
+}
+
+// A plan made by hand, of 3 by 2 tiles on 6 processors, in which processor 1 has no tile in the first slab.
+fn put_uneven(out: &mut [u8], at: usize) -> usize
+    ensures { λ r. ⌜ length (now (out .exit)) ≡ length (now (out .entry)) ⌝ }
+{
+    let mut plan = layout::no_plan();
+    plan.d = 2;
+    plan.p = 6;
+    plan.extents = [9, 9, 0, 0, 0];
+    plan.cuts = [3, 2, 0, 0, 0];
+    plan.moduli = [1, 6, 0, 0, 0];
+    plan.matrix[5] = 2;
+    plan.matrix[6] = 3;
+    put_visited(out, at, plan, 1, true, 0, 1)
+}
+
 fn main() {
-    let mut out = [0u8; 2048];
+    let mut out = [0u8; 4096];
     let mut n = put_squares(&mut out, 0);
     n = put_outside(&mut out, n);
     n = put_lists(&mut out, n);
     n = put_slabs(&mut out, n);
     n = put_questions(&mut out, n);
     n = put_uncut(&mut out, n);
-    if n <= 2048 {
+    n = put_cube_steps(&mut out, n);
+    n = put_unlike_steps(&mut out, n);
+    n = put_limits(&mut out, n);
+    n = put_uneven(&mut out, n);
+    if n <= 4096 {
         let k = io::count(n as isize, &out);
         io::write_all(STDOUT_FILENO, &out[..k]);
     }
