@@ -1,5 +1,6 @@
 /* A solver that sweeps a grid of 9 by 9 by 9 elements on 8 processors: it plans the job, looks at who owns the tiles of one slab, asks to whom a
- * processor hands its results when the sweep along dimension 1 goes on to the next slab, and goes through that processor's tiles.
+ * processor hands its results when the sweep along dimension 1 goes on to the next slab, goes through that processor's tiles, and prints the
+ * timetable of the sweep: what each processor receives, works on and sends in each step.
  *
  *     rt staticlib solver_link
  *     cc -Iinclude examples/sweep.c target/staticlib/libsolver_link.a -o target/sweep && target/sweep
@@ -48,6 +49,27 @@ static void hand_on(const uint32_t *plan)
     free(nexts);
 }
 
+/* The whole sweep up the dimension. In a solver each processor asks for itself, then receives, works and sends. */
+static void sweep_up(const uint32_t *plan)
+{
+    const uint32_t steps = plan[MULTIPARTITION_CUTS + DIMENSION - 1];
+    for (uint32_t step = 0; step < steps; step++)
+        for (uint32_t processor = 0; processor < plan[MULTIPARTITION_PROCESSORS]; processor++) {
+            uint32_t visit[MULTIPARTITION_TIMETABLE_LENGTH];
+            check(multipartition_timetable(plan, MULTIPARTITION_PLAN_LENGTH, DIMENSION, 1, step, processor, visit,
+                                           MULTIPARTITION_TIMETABLE_LENGTH));
+            printf("step %" PRIu32 " processor %" PRIu32, step, processor);
+            if (visit[MULTIPARTITION_TIMETABLE_RECEIVES])
+                printf(" receives %" PRIu32 " elements from %" PRIu32 ",", visit[MULTIPARTITION_TIMETABLE_RECEIVE_LENGTH],
+                       visit[MULTIPARTITION_TIMETABLE_RECEIVE_FROM]);
+            printf(" works on %" PRIu32 " tiles of slab %" PRIu32, visit[MULTIPARTITION_TIMETABLE_TILES], visit[MULTIPARTITION_TIMETABLE_SLAB]);
+            if (visit[MULTIPARTITION_TIMETABLE_SENDS])
+                printf(", sends %" PRIu32 " elements to %" PRIu32, visit[MULTIPARTITION_TIMETABLE_SEND_LENGTH],
+                       visit[MULTIPARTITION_TIMETABLE_SEND_TO]);
+            printf("\n");
+        }
+}
+
 int main(void)
 {
     const uint32_t extents[D] = {9, 9, 9};
@@ -79,5 +101,6 @@ int main(void)
     else
         printf("dimension %d is uncut\n", DIMENSION);
     hand_on(plan);
+    sweep_up(plan);
     return EXIT_SUCCESS;
 }

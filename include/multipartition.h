@@ -3,7 +3,7 @@
  * Link target/staticlib/libsolver_link.a, which `rt staticlib solver_link` proves and builds.
  *
  * Lists are of 32-bit numbers. Each is passed as a pointer and its length, which counts numbers, not bytes. Dimensions are numbered
- * from 1; processors, slabs and elements from 0; tiles from 1.
+ * from 1; processors, slabs, elements and steps of a sweep from 0; tiles from 1.
  *
  * Proved, for all numbers and for lists of all lengths and contents:
  * - Every call returns. It returns 0 and has written every place of its answer lists, or it returns a refusal and has written nothing.
@@ -12,6 +12,10 @@
  * - A plan list is any list of 49 numbers. One that multipartition_plan wrote is in shape, and its tiles are even: every processor owns
  *   equally many tiles in every slab of every dimension. One that is made or changed by hand is answered by the same formulas where it is
  *   in shape, and refused with 6 where it is not.
+ * - The answers of multipartition_timetable fit together, for every plan list in shape: what a processor sends after a step is exactly what its
+ *   receiver expects before the next, and the receiver names the sender; except after the last step, the lengths that all processors send after a
+ *   step add up to the product of the extents of the other dimensions; no length is above 4,294,967,295. For a list that multipartition_plan wrote,
+ *   every processor works on exactly tiles / (cut * p) tiles in every step.
  *
  * What follows from it: a call reads and writes its lists and its own stack and nothing else. The archive has no variables, asks for no
  * memory and calls nothing but memcpy and memset. So calls from several threads need no lock, as long as no list is written in one thread
@@ -67,8 +71,18 @@ enum {
     MULTIPARTITION_TILE = 0, /* the tile's number */
     MULTIPARTITION_TILE_LENGTH = 1,
 
-    MULTIPARTITION_STEP_INSIDE = 0,  /* 1, or 0 if the step leaves the grid */
-    MULTIPARTITION_STEP_POSITION = 1 /* from here on the position one step on, or d times 0 if the step leaves the grid */
+    MULTIPARTITION_STEP_INSIDE = 0,   /* 1, or 0 if the step leaves the grid */
+    MULTIPARTITION_STEP_POSITION = 1, /* from here on the position one step on, or d times 0 if the step leaves the grid */
+
+    MULTIPARTITION_TIMETABLE_SLAB = 0,           /* the slab visited */
+    MULTIPARTITION_TIMETABLE_TILES = 1,          /* how many tiles of it the processor works on */
+    MULTIPARTITION_TIMETABLE_SENDS = 2,          /* 1, or 0 after the last step */
+    MULTIPARTITION_TIMETABLE_SEND_TO = 3,        /* the processor it sends to afterwards, or 0 if it does not send */
+    MULTIPARTITION_TIMETABLE_SEND_LENGTH = 4,    /* how many elements, or 0 if it does not send */
+    MULTIPARTITION_TIMETABLE_RECEIVES = 5,       /* 1, or 0 before step 0 */
+    MULTIPARTITION_TIMETABLE_RECEIVE_FROM = 6,   /* the processor it receives from beforehand, or 0 if it does not receive */
+    MULTIPARTITION_TIMETABLE_RECEIVE_LENGTH = 7, /* how many elements, or 0 if it does not receive */
+    MULTIPARTITION_TIMETABLE_LENGTH = 8
 };
 
 /* A position is a list of d coordinates, that of dimension 1 first; each is a slab of its dimension. The answer to a step is longer by one. */
@@ -79,20 +93,23 @@ enum {
 enum {
     MULTIPARTITION_PLAN_STACK = 73728,
     MULTIPARTITION_CHAINS_STACK = 12288,
+    MULTIPARTITION_TIMETABLE_STACK = 49152,
     MULTIPARTITION_QUESTION_STACK = 8192 /* all other calls */
 };
 
-/* What a call returns: 0, or a refusal's number in the lower 32 bits and its place in the upper 32. */
+/* What a call returns: 0, or a refusal's number in the lower 32 bits and its place in the upper 32. Refusals stand here in the order in which they
+ * are checked. No call returns 10, which is only for the text that the program `plan` reads. */
 enum multipartition_number {
     MULTIPARTITION_ANSWERED = 0,
-    MULTIPARTITION_BAD_DIMENSIONS = 1, /* d is not 2 to 5 */
-    MULTIPARTITION_BAD_PROCESSORS = 2, /* p is not 1 to 4,096 */
-    MULTIPARTITION_BAD_JOB_LENGTH = 3, /* not d extents and d weights */
-    MULTIPARTITION_BAD_EXTENT = 4,     /* an extent is not 1 to 1,000,000; the place is the first such dimension */
-    MULTIPARTITION_NO_CUTS = 5,        /* no cuts that fit are even */
-    MULTIPARTITION_BAD_PLAN = 6,       /* the plan list has another length than 49, or its plan is out of shape */
-    MULTIPARTITION_BAD_DIMENSION = 7,  /* the dimension is not 1 to d */
-    MULTIPARTITION_OUT_OF_RANGE = 8,   /* a slab, element, tile, coordinate or processor out of range, or not d coordinates */
+    MULTIPARTITION_BAD_DIMENSIONS = 1,     /* d is not 2 to 5 */
+    MULTIPARTITION_BAD_PROCESSORS = 2,     /* p is not 1 to 4,096 */
+    MULTIPARTITION_BAD_JOB_LENGTH = 3,     /* not d extents and d weights */
+    MULTIPARTITION_BAD_EXTENT = 4,         /* an extent is not 1 to 1,000,000; the place is the first such dimension */
+    MULTIPARTITION_NO_CUTS = 5,            /* no cuts that fit are even */
+    MULTIPARTITION_BAD_PLAN = 6,           /* the plan list has another length than 49, or its plan is out of shape */
+    MULTIPARTITION_BAD_DIMENSION = 7,      /* the dimension is not 1 to d */
+    MULTIPARTITION_LENGTHS_TOO_LARGE = 11, /* the product of the extents of the other dimensions is above 4,294,967,295 */
+    MULTIPARTITION_OUT_OF_RANGE = 8,       /* a slab, element, tile, coordinate, step or processor out of range, or not d coordinates */
     MULTIPARTITION_BAD_ANSWER_LENGTH = 9
 };
 
@@ -151,6 +168,15 @@ uint64_t multipartition_step(const uint32_t *plan, size_t plan_length,
                              const uint32_t *position, size_t position_length,
                              uint32_t dimension, uint32_t up,
                              uint32_t *answer, size_t answer_length);
+
+/* What a processor does in one step of a sweep along a dimension: upward, or downward if `up` is 0. There are as many steps as slabs; step s visits
+ * slab s going up, and slab cut - 1 - s going down. The processor receives from its neighbour against the sweep, works on its tiles of the slab, and
+ * sends to its neighbour along the sweep; before step 0 it receives from nobody, and after the last step it sends to nobody. Either message has as
+ * many elements as the faces of its tiles in this slab together; a tile's face is the product of its thicknesses, in elements, in the other
+ * dimensions. Refused with 6, 7, 11, 8 (the step is not below the cut, or the processor not below p), 9. */
+uint64_t multipartition_timetable(const uint32_t *plan, size_t plan_length,
+                                  uint32_t dimension, uint32_t up, uint32_t step, uint32_t processor,
+                                  uint32_t *answer, size_t answer_length);
 
 /* Which tiles each processor owns, as chains. `heads`, of p places, gets each processor's lowest tile, 0 if it has none; `nexts`, of one
  * place a tile, gets at place t - 1 the next higher tile of the owner of tile t, 0 at the chain's end. Refused with 6, 9. */

@@ -15,6 +15,7 @@ uint64_t multipartition_slab_of(const uint32_t *, size_t, uint32_t, uint32_t, ui
 uint64_t multipartition_tile_number(const uint32_t *, size_t, const uint32_t *, size_t, uint32_t *, size_t);
 uint64_t multipartition_tile_position(const uint32_t *, size_t, uint32_t, uint32_t *, size_t);
 uint64_t multipartition_step(const uint32_t *, size_t, const uint32_t *, size_t, uint32_t, uint32_t, uint32_t *, size_t);
+uint64_t multipartition_timetable(const uint32_t *, size_t, uint32_t, uint32_t, uint32_t, uint32_t, uint32_t *, size_t);
 uint64_t multipartition_chains(const uint32_t *, size_t, uint32_t *, size_t, uint32_t *, size_t);
 static enum multipartition_number multipartition_number_of(uint64_t);
 static uint32_t multipartition_place_of(uint64_t);
@@ -110,6 +111,48 @@ static void step_places(const uint32_t *plan)
     expect_five("a coordinate beyond the edge", answer + MULTIPARTITION_STEP_POSITION, zeros);
 }
 
+/* Slab, tiles, whether it sends, to whom, how much, whether it receives, from whom, how much. */
+static void visit_places(const uint32_t *plan, uint32_t up, uint32_t step, const uint32_t figures[8])
+{
+    uint32_t answer[ROOM];
+    EXPECT(multipartition_timetable(plan, MULTIPARTITION_PLAN_LENGTH, 2, up, step, 123, ready(answer), MULTIPARTITION_TIMETABLE_LENGTH), 0);
+    EXPECT(answer[MULTIPARTITION_TIMETABLE_SLAB], figures[0]);
+    EXPECT(answer[MULTIPARTITION_TIMETABLE_TILES], figures[1]);
+    EXPECT(answer[MULTIPARTITION_TIMETABLE_SENDS], figures[2]);
+    EXPECT(answer[MULTIPARTITION_TIMETABLE_SEND_TO], figures[3]);
+    EXPECT(answer[MULTIPARTITION_TIMETABLE_SEND_LENGTH], figures[4]);
+    EXPECT(answer[MULTIPARTITION_TIMETABLE_RECEIVES], figures[5]);
+    EXPECT(answer[MULTIPARTITION_TIMETABLE_RECEIVE_FROM], figures[6]);
+    EXPECT(answer[MULTIPARTITION_TIMETABLE_RECEIVE_LENGTH], figures[7]);
+}
+
+/* A sweep along dimension 2, of 14 slabs: at the ends the figures that are not 0 all differ; between them only the two 1 and the two lengths agree,
+ * as they must. */
+static void timetable_places(void)
+{
+    const uint32_t four_extents[4] = {101, 67, 41, 211}, four_weights[4] = {3, 5, 17, 2};
+    const uint32_t first[8] = {13, 15, 1, 294, 2090, 0, 0, 0}, up[8] = {9, 15, 1, 330, 2090, 1, 294, 2090};
+    const uint32_t down[8] = {4, 15, 1, 294, 2082, 1, 330, 2082}, last[8] = {13, 15, 0, 0, 0, 1, 294, 2090};
+    uint32_t plan[ROOM];
+    EXPECT(multipartition_plan(420, 4, four_extents, 4, four_weights, 4, ready(plan), MULTIPARTITION_PLAN_LENGTH), 0);
+    visit_places(plan, 0, 0, first);
+    visit_places(plan, 1, 9, up);
+    visit_places(plan, 0, 9, down);
+    visit_places(plan, 1, 13, last);
+}
+
+/* The largest message that there is: a lone processor's, where dimension 3 is cut by hand. */
+static void largest_length(void)
+{
+    const size_t n = MULTIPARTITION_PLAN_LENGTH;
+    const uint32_t three_extents[3] = {65535, 65537, 2};
+    uint32_t plan[ROOM], answer[ROOM];
+    EXPECT(multipartition_plan(1, 3, three_extents, 3, weights, 3, ready(plan), n), 0);
+    plan[MULTIPARTITION_CUTS + 2] = 2;
+    EXPECT(multipartition_timetable(plan, n, 3, 1, 0, 0, ready(answer), MULTIPARTITION_TIMETABLE_LENGTH), 0);
+    EXPECT(answer[MULTIPARTITION_TIMETABLE_SEND_LENGTH], UINT32_MAX);
+}
+
 /* A plan made by hand, through the names. The tile one step from the first along dimension k has column k as its coordinates. */
 static void plan_by_hand(void)
 {
@@ -187,6 +230,8 @@ int main(void)
     answer_places(plan);
     step_places(plan);
     step_lengths();
+    timetable_places();
+    largest_length();
     refusal_place();
     plan_by_hand();
     chain_lists();

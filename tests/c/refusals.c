@@ -84,7 +84,7 @@ static void jobs(void)
 
 /* ---- questions */
 
-/* A question: the numbers, the length of the position, and that of the answer lists. */
+/* A question: the numbers, the length of the position, and that of the answer lists. The slab is also the step of a sweep. */
 struct question {
     uint32_t processor, dimension, slab, element, tile, coordinate;
     size_t position, answer;
@@ -105,10 +105,55 @@ static void questions(const char *what, const uint32_t *plan, size_t length, str
     for (uint32_t up = 0; up < 2; up++) {
         expect(what, multipartition_neighbour(list, length, q.processor, q.dimension, up, answer, q.answer), with, 0);
         expect(what, multipartition_step(list, length, position, q.position, q.dimension, up, answer, q.answer), with, 0);
+        expect(what, multipartition_timetable(list, length, q.dimension, up, q.slab, q.processor, answer, q.answer), with, 0);
     }
     expect_kept(what, answer, q.answer);
     free(position);
     free(list);
+}
+
+/* A question about a sweep, up and down. */
+static void visit(const char *what, const uint32_t *plan, size_t length, uint32_t dimension, uint32_t step, uint32_t processor, size_t answer_length,
+                  enum multipartition_number number)
+{
+    uint32_t *list = copied(plan, MULTIPARTITION_PLAN_LENGTH, length);
+    uint32_t *answer = filled(answer_length, KEPT);
+    expect(what, multipartition_timetable(list, length, dimension, 0, step, processor, answer, answer_length), number, 0);
+    expect(what, multipartition_timetable(list, length, dimension, 1, step, processor, answer, answer_length), number, 0);
+    expect_kept(what, answer, answer_length);
+    free(list);
+}
+
+/* Refusals of a sweep, each where all later ones apply too: any two extents of the first plan have a product above 4,294,967,295, and 2 is neither a
+ * step nor a processor. The first two extents of the second plan have just that product. */
+static void visits(void)
+{
+    const size_t n = MULTIPARTITION_PLAN_LENGTH, a = MULTIPARTITION_TIMETABLE_LENGTH;
+    const uint32_t large[3] = {65536, 65536, 65536}, small[3] = {65535, 65537, 2}, weights[3] = {1, 1, 1};
+    uint32_t plan[MULTIPARTITION_PLAN_LENGTH], answer[MULTIPARTITION_TIMETABLE_LENGTH];
+    expect("a large job", multipartition_plan(2, 3, large, 3, weights, 3, plan, n), MULTIPARTITION_ANSWERED, 0);
+    visit("sweep by a short plan list", plan, n - 1, 0, 2, 2, 0, MULTIPARTITION_BAD_PLAN);
+    plan[MULTIPARTITION_MODULI] = 0;
+    visit("sweep by a plan out of shape", plan, n, 0, 2, 2, 0, MULTIPARTITION_BAD_PLAN);
+    plan[MULTIPARTITION_MODULI] = 1;
+    visit("sweep along dimension 0", plan, n, 0, 2, 2, 0, MULTIPARTITION_BAD_DIMENSION);
+    visit("sweep along dimension 4", plan, n, 4, 2, 2, 0, MULTIPARTITION_BAD_DIMENSION);
+    for (uint32_t k = 1; k <= 3; k++) {
+        visit("lengths too large", plan, n, k, UINT32_MAX, UINT32_MAX, 0, MULTIPARTITION_LENGTHS_TOO_LARGE);
+        visit("lengths too large", plan, n, k, 0, 0, a, MULTIPARTITION_LENGTHS_TOO_LARGE);
+    }
+
+    expect("a smaller job", multipartition_plan(2, 3, small, 3, weights, 3, plan, n), MULTIPARTITION_ANSWERED, 0);
+    visit("sweep beyond the last step", plan, n, 3, 2, 0, 0, MULTIPARTITION_OUT_OF_RANGE);
+    visit("sweep beyond the last step", plan, n, 3, UINT32_MAX, 1, a, MULTIPARTITION_OUT_OF_RANGE);
+    visit("sweep of processor 2", plan, n, 3, 0, 2, 0, MULTIPARTITION_OUT_OF_RANGE);
+    visit("sweep of processor 2", plan, n, 3, 0, 2, a, MULTIPARTITION_OUT_OF_RANGE);
+    visit("sweep without an answer list", plan, n, 3, 1, 1, 0, MULTIPARTITION_BAD_ANSWER_LENGTH);
+    visit("sweep with a short answer list", plan, n, 3, 1, 1, a - 1, MULTIPARTITION_BAD_ANSWER_LENGTH);
+    visit("sweep with a long answer list", plan, n, 3, 1, 1, a + 1, MULTIPARTITION_BAD_ANSWER_LENGTH);
+    expect("a sweep", multipartition_timetable(plan, n, 3, 1, 1, 1, answer, a), MULTIPARTITION_ANSWERED, 0);
+    plan[MULTIPARTITION_EXTENTS] = 65536;
+    visit("lengths just too large", plan, n, 3, 1, 1, a, MULTIPARTITION_LENGTHS_TOO_LARGE);
 }
 
 static void chain_lists(const char *what, const uint32_t *plan, size_t length, size_t heads_length, size_t nexts_length,
@@ -141,6 +186,7 @@ int main(void)
     const uint32_t weights[3] = {1, 1, 1};
     uint32_t plan[MULTIPARTITION_PLAN_LENGTH];
     jobs();
+    visits();
     expect("a job", multipartition_plan(4, 3, extents, 3, weights, 3, plan, n), MULTIPARTITION_ANSWERED, 0);
 
     const struct question good = {3, 3, 1, 7, 8, 1, 3, 2};

@@ -16,9 +16,9 @@
 
 enum { THREAD = 1 << 16, GUARD = 1 << 20, UNUSED = 0xA5, MOST = 5, N = MULTIPARTITION_PLAN_LENGTH };
 
-static uint32_t plan[N];
+static uint32_t plan[N], swept[N];
 static uint32_t position[MOST];
-static uint32_t answer[MULTIPARTITION_STEP_LENGTH(MOST)];
+static uint32_t answer[MULTIPARTITION_TIMETABLE_LENGTH];
 static uint32_t *heads, *nexts;
 static size_t tiles;
 
@@ -40,9 +40,11 @@ static void plan_all(void)
                 check(multipartition_plan(p, d, extents, d, weights[w], d, plan, N));
 }
 
-/* The questions are about the plan of a count with most divisors. */
+/* The questions are about the plan of a count with most divisors; for sweeps, with extents that message lengths allow. */
 static void plan_one(void)
 {
+    const uint32_t narrow[MOST] = {255, 255, 255, 255, 255};
+    check(multipartition_plan(3360, MOST, narrow, MOST, weights[0], MOST, swept, N));
     check(multipartition_plan(3360, MOST, extents, MOST, weights[0], MOST, plan, N));
     tiles = 1;
     for (int k = 0; k < MOST; k++) {
@@ -84,6 +86,15 @@ static void ask_tile_position(void)
 static void ask_step(void)
 {
     check(multipartition_step(plan, N, position, MOST, MOST, 0, answer, MULTIPARTITION_STEP_LENGTH(MOST)));
+}
+
+/* Every step along every dimension, both ways. */
+static void ask_timetable(void)
+{
+    for (uint32_t k = 1; k <= MOST; k++)
+        for (uint32_t step = 0; step < swept[MULTIPARTITION_CUTS + k - 1]; step++)
+            for (uint32_t up = 0; up < 2; up++)
+                check(multipartition_timetable(swept, N, k, up, step, 3359, answer, MULTIPARTITION_TIMETABLE_LENGTH));
 }
 
 /* The planner's plan, and one by hand in which owners along the last dimension are not consecutive. */
@@ -154,6 +165,7 @@ int main(void)
     within("tile number", MULTIPARTITION_QUESTION_STACK, ask_tile_number);
     within("tile position", MULTIPARTITION_QUESTION_STACK, ask_tile_position);
     within("step", MULTIPARTITION_QUESTION_STACK, ask_step);
+    within("timetable", MULTIPARTITION_TIMETABLE_STACK, ask_timetable);
     within("chains", MULTIPARTITION_CHAINS_STACK, ask_chains);
     within("plan", MULTIPARTITION_PLAN_STACK, plan_all);
     return EXIT_SUCCESS;

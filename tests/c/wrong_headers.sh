@@ -73,10 +73,17 @@ swap COST_LOW COST_HIGH
 swap NEIGHBOUR_FOUND NEIGHBOUR
 swap SLAB_FIRST SLAB_AFTER
 swap STEP_INSIDE STEP_POSITION
+swap TIMETABLE_SLAB TIMETABLE_TILES
+swap TIMETABLE_SENDS TIMETABLE_RECEIVES
+swap TIMETABLE_SENDS TIMETABLE_SEND_TO
+swap TIMETABLE_SEND_TO TIMETABLE_RECEIVE_FROM
+swap TIMETABLE_SEND_LENGTH TIMETABLE_RECEIVE_LENGTH
+swap TIMETABLE_RECEIVE_FROM TIMETABLE_RECEIVE_LENGTH
 swap BAD_DIMENSIONS BAD_PROCESSORS
 swap BAD_JOB_LENGTH BAD_ANSWER_LENGTH
 swap BAD_EXTENT NO_CUTS
 swap BAD_DIMENSION OUT_OF_RANGE
+swap OUT_OF_RANGE LENGTHS_TOO_LARGE
 wrong 'a step has one place more' 's/\(STEP_LENGTH(dimensions)\) (/\1 (1 + /'
 wrong 'number from the upper half' 's/returned & UINT32_MAX/returned >> 32/'
 wrong 'place from the lower half' 's/returned >> 32/returned/'
@@ -86,7 +93,7 @@ wrong 'the dimensions of a step without parentheses' 's/STEP_POSITION + (dimensi
 wrong 'a step always has six places' 's/STEP_POSITION + (dimensions)/STEP_POSITION + 0 * (dimensions) + 5/'
 wrong 'answer lengths of 32 bits' 's/size_t answer_length/uint32_t answer_length/'
 wrong 'plan lengths with a sign' 's/size_t plan_length/int plan_length/'
-for call in plan owner neighbour slab slab_of tile_number tile_position step chains; do
+for call in plan owner neighbour slab slab_of tile_number tile_position step timetable chains; do
     wrong "$call returns 32 bits" "s/^uint64_t \(multipartition_$call(\)/uint32_t \1/"
 done
 
