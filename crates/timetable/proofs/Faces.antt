@@ -30,7 +30,7 @@ sum-thickness n b (suc m) low high l =
     let before : sum m (thickness n b) ≡ slabStart n b m = sum-thickness n b m low high (omega arith) in
     omega (arith, before, slab-start-rises n b m low high l)
 
-pub thickness-adds-up : (n b : ℕ) → 1 ≤ b → b ≤ n → sum b (thickness n b) ≡ n
+thickness-adds-up : (n b : ℕ) → 1 ≤ b → b ≤ n → sum b (thickness n b) ≡ n
 thickness-adds-up n b low high = sum-thickness n b b low high (omega arith) ∙ slab-start-last n b low
 
 -- every cut is from 1 to its extent
@@ -59,7 +59,7 @@ total-thicknesses (n ∷ extents) (b ∷ cuts) e h =
     ∙ factor-out n b (product extents) (h 0 (omega arith) .0) (h 0 (omega arith) .1)
 
 -- the faces of a slab add up to the product of the other extents
-pub slab-faces : (k v : ℕ) (extents cuts : List ℕ) → length extents ≡ length cuts → Cut extents cuts → k < length cuts
+slab-faces : (k v : ℕ) (extents cuts : List ℕ) → length extents ≡ length cuts → Cut extents cuts → k < length cuts
     → slabSum k v cuts (faceOf extents cuts k) ≡ product (without k extents)
 unfolding slabSum thicknesses faceOf
 slab-faces k v [] [] e h l = absurd (not-suc-le-zero l)

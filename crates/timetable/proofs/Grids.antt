@@ -2,35 +2,30 @@
 -- plan with one element in every slab; the lines of the flat grid have the processor's faces, and those of the other its tiles.
 use mathlib.Core.Path.{_≡_, refl, sym, ap, ap₂, _∙_, subst, subst⁻¹}
 use mathlib.Core.Logic.{_≢_}
-use mathlib.Core.List.{List, [], _∷_}
-use Prim.Native.Nat.{ℕ, zero, suc, _+_, _-_, _*_, _≤_, _<_}
+use mathlib.Core.List.{List}
+use Prim.Native.Nat.{ℕ, _+_, _-_, _*_, _≤_, _<_}
 use native.Mathlib.Nat.{le-refl, le-trans, mul-le-mul-right, one-mul}
 use native.Mathlib.Decide.{ℕ-discrete}
 use native.Mathlib.Omega.{arith}
 use lib.ListN.{length, getD, set, take, length-set}
-use lib.Seq.{getD-take, take-take, take-set-lt, take-length, length-take-le, getD-set-same, getD-set-other, ext-getD}
+use lib.Seq.{getD-take, take-set-lt, length-take-le, getD-set-same, getD-set-other}
 use Rattle.numbers.specs.Products.{product, without}
 use Rattle.numbers.specs.Sums.{sum}
 use Rattle.numbers.proofs.Products.{product-without}
 use Rattle.numbers.proofs.Sums.{sum-term-le}
-use Rattle.multipartition.specs.Owners.{ownerAt}
-use Rattle.multipartition.specs.Rivals.{held}
 use Rattle.multipartition.specs.Tiles.{Inside}
 use Rattle.multipartition.proofs.MixedRadix.{positive-of-places}
-use Rattle.multipartition.proofs.Tiles.{inside-below}
 use Rattle.layout.specs.declared.Plan.{Plan}
 use Rattle.layout.specs.Plans.{layoutOf}
 use Rattle.layout.specs.Shaped.{Shaped}
-use Rattle.layout.proofs.Lists.{product-front}
 use Rattle.layout.proofs.Places.{extents-length, cuts-length, extent-at, cut-at}
 use Rattle.layout.proofs.Shaped.{in-shape-of-shaped}
-use Rattle.timetable.specs.Faces.{thickness, thicknesses, facesHeld}
+use Rattle.timetable.specs.Faces.{facesHeld}
 use Rattle.timetable.specs.Timetable.{ownerIn, otherExtents}
-use Rattle.timetable.specs.Rows.{placesOf, weightOf, Weighed, lineOf, lineIn, slabLine, Numbers, Within, SlabAsked, flattened, oneEach}
+use Rattle.timetable.specs.Rows.{placesOf, weightOf, Weighed, lineIn, slabLine, Numbers, SlabAsked, flattened, oneEach}
 use Rattle.timetable.proofs.Faces.{Cut, held-faces-add-up}
-use Rattle.timetable.proofs.Rows.{flat, length-thicknesses, length-places, product-set, places-inside}
+use Rattle.timetable.proofs.Rows.{flat, product-set, places-inside}
 use Rattle.timetable.proofs.Steps.{faces-of-lines}
-use Rattle.timetable.proofs.Tables.{volume-more, volume-le, volume-low, volume-of-ones, faces-are-tiles}
 use Rattle.timetable.proofs.Timetable.{owner-in-below}
 
 -- ---- a list with 1 in one place
@@ -204,7 +199,7 @@ module _ (plan : Plan) (s : Shaped plan) (k j c v q : ℕ) (lk : k < plan .d) (l
   once : Shaped (flattened k plan)
   once = shaped-flat plan k s lk
 
-  pub twice : Shaped (flattened j (flattened k plan))
+  twice : Shaped (flattened j (flattened k plan))
   twice = shaped-flat (flattened k plan) j once (flat-d plan k j lj)
 
   in-grid : (i : ℕ) → i < plan .d → i < grid .d

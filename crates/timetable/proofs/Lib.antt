@@ -4,6 +4,7 @@ pub mod Timetable
 pub mod Figures
 pub mod Rows
 pub mod Steps
+pub mod Walks
 pub mod Tables
 pub mod Grids
 pub mod Lines

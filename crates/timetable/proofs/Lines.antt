@@ -3,20 +3,17 @@ use mathlib.Core.Path.{_≡_, refl, sym, ap, ap₂, _∙_, subst, subst⁻¹}
 use mathlib.Core.Bool.{true}
 use mathlib.Core.List.{List, [], _∷_}
 use Prim.Native.Nat.{ℕ, zero, suc, _+_, _-_, _*_, _≤_, _<_}
-use native.Mathlib.Nat.{le-refl, le-trans, mul-le-mul-right, one-mul}
+use native.Mathlib.Nat.{le-trans, mul-le-mul-right, one-mul}
 use native.Mathlib.Decide.{ℕ-discrete}
-use native.Mathlib.Numerals.{add-one}
 use native.Mathlib.Omega.{arith}
 use lib.ListN.{length, getD, set, take}
 use lib.Seq.{getD-take, take-take, take-set-lt, length-take-le, getD-set-same, getD-set-other, ext-getD}
 use Rattle.numbers.specs.Products.{product}
 use Rattle.numbers.specs.Sums.{sum}
 use Rattle.numbers.proofs.Sums.{sum-add-one, sum-front-le, sum-term-le}
-use Rattle.multipartition.specs.Neighbours.{nextOwner}
 use Rattle.multipartition.specs.Owners.{ownerAt}
 use Rattle.multipartition.specs.Slabs.{slabStart}
 use Rattle.multipartition.specs.Tiles.{Inside}
-use Rattle.multipartition.proofs.Slabs.{slab-start-rises}
 use Rattle.multipartition.proofs.Tiles.{inside-below}
 use Rattle.layout.specs.declared.Plan.{Plan}
 use Rattle.layout.specs.Plans.{layoutOf}
@@ -25,12 +22,12 @@ use Rattle.layout.proofs.Lists.{product-front}
 use Rattle.layout.proofs.Places.{extents-length, cuts-length, extent-at, cut-at}
 use Rattle.questions.specs.declared.walks.Coordinated.{Coordinated}
 use Rattle.questions.specs.declared.walks.Stride.{Stride}
-use Rattle.questions.specs.Walks.{Stands, Strides, Steps}
-use Rattle.questions.proofs.Walking.{next-stands, next-below}
+use Rattle.questions.specs.Walks.{Strides, Steps}
 use Rattle.timetable.specs.Faces.{thickness, thicknesses}
 use Rattle.timetable.specs.Rows.{placesOf, stepsOn, lineOf, slabLine, Placed, Within, Small, LineAsked, SlabAsked, oneEach}
 use Rattle.timetable.proofs.Grids.{shaped-one-each, layout-cut, same-lengths, line-inside}
 use Rattle.timetable.proofs.Rows.{length-thicknesses, length-places}
+use Rattle.timetable.proofs.Walks.{Walk, walk-side, walk-more}
 use Rattle.timetable.proofs.Tables.{thickness-le, thickness-of-one, volume-more, volume-le, volume-low, volume-of-ones}
 
 -- ---- the volume of a tile
@@ -77,27 +74,21 @@ module _ (grid : Plan) (s : Shaped grid) (at : List ℕ) (w : Within grid at) (f
 
 -- ---- along a line
 
-pub steps-more : (plan : Plan) (c t o : ℕ)
-    → nextOwner (layoutOf plan .moduli) (layoutOf plan .matrix) c true (stepsOn (layoutOf plan .moduli) (layoutOf plan .matrix) c true t o)
-    ≡ stepsOn (layoutOf plan .moduli) (layoutOf plan .matrix) c true (t + 1) o
-unfolding stepsOn
-steps-more plan c t o = ap (λ (n : ℕ). stepsOn (layoutOf plan .moduli) (layoutOf plan .matrix) c true n o) (sym (add-one t))
-
 module _ (grid : Plan) (c : ℕ) (table : List ℕ) (o t : ℕ) where
   abbrev here : ℕ
   here = stepsOn (layoutOf grid .moduli) (layoutOf grid .matrix) c true t o
 
-  pub line-more : lineOf grid c table (t + 1) o ≡ lineOf grid c table t o + thickness (getD (grid .extents) c 0) (getD (grid .cuts) c 0) t * getD table here 0
+  line-more : lineOf grid c table (t + 1) o ≡ lineOf grid c table t o + thickness (getD (grid .extents) c 0) (getD (grid .cuts) c 0) t * getD table here 0
   line-more = sum-add-one t (λ u. thickness (getD (grid .extents) c 0) (getD (grid .cuts) c 0) u * getD table (stepsOn (layoutOf grid .moduli) (layoutOf grid .matrix) c true u o) 0)
 
   -- one slab more stays within the whole line
-  pub line-within : t < getD (grid .cuts) c 0 → lineOf grid c table (t + 1) o ≤ lineOf grid c table (getD (grid .cuts) c 0) o
+  line-within : t < getD (grid .cuts) c 0 → lineOf grid c table (t + 1) o ≤ lineOf grid c table (getD (grid .cuts) c 0) o
   line-within l =
       sum-front-le (t + 1) (getD (grid .cuts) c 0)
       (λ u. thickness (getD (grid .extents) c 0) (getD (grid .cuts) c 0) u * getD table (stepsOn (layoutOf grid .moduli) (layoutOf grid .matrix) c true u o) 0) (omega arith)
 
 -- with one element in every slab the line counts
-pub count-more : (grid : Plan) (c : ℕ) (table : List ℕ) (o t : ℕ) → t < getD (grid .cuts) c 0
+count-more : (grid : Plan) (c : ℕ) (table : List ℕ) (o t : ℕ) → t < getD (grid .cuts) c 0
     → lineOf (oneEach grid) c table (t + 1) o ≡ lineOf (oneEach grid) c table t o + getD table (stepsOn (layoutOf grid .moduli) (layoutOf grid .matrix) c true t o) 0
 unfolding oneEach layoutOf
 count-more grid c table o t l =
@@ -106,59 +97,43 @@ count-more grid c table o t l =
     (ap (λ (n : ℕ). n * getD table (stepsOn (layoutOf grid .moduli) (layoutOf grid .matrix) c true t o) 0) (thickness-of-one (getD (grid .cuts) c 0) t l)
     ∙ one-mul (getD table (stepsOn (layoutOf grid .moduli) (layoutOf grid .matrix) c true t o) 0))
 
--- the sums of the first t slabs of a line, the walk, and where its next slab starts
+-- the walk along a line with the sums of its first t slabs
 pub record Walked (grid : Plan) (c : ℕ) (weights counts : List ℕ) (o t : ℕ) (at : Coordinated) (first faces tiles : ℕ) : Type 0 where
-  pub stands : Stands grid (stepsOn (layoutOf grid .moduli) (layoutOf grid .matrix) c true t o) at
-  pub below : stepsOn (layoutOf grid .moduli) (layoutOf grid .matrix) c true t o < grid .p
-  pub first-is : first ≡ slabStart (getD (grid .extents) c 0) (getD (grid .cuts) c 0) t
+  pub walk : Walk grid c true o t at first
   pub faces-are : faces ≡ lineOf grid c weights t o
   pub tiles-are : tiles ≡ lineOf (oneEach grid) c counts t o
 
-module _ (grid : Plan) (s : Shaped grid) (c : ℕ) (lc : c < grid .d) (weights counts : List ℕ) (o : ℕ) (lo : o < grid .p) where
-  pub walked-none : (from : Coordinated) (first : ℕ) → Stands grid o from → first ≡ slabStart (getD (grid .extents) c 0) (getD (grid .cuts) c 0) 0
-      → Walked grid c weights counts o 0 from first 0 0
-  unfolding stepsOn sum
-  walked-none from first stands e = record { stands = stands; below = lo; first-is = e; faces-are = refl; tiles-are = refl }
+pub walked-none : (grid : Plan) (c : ℕ) (weights counts : List ℕ) (o : ℕ) (from : Coordinated) (first : ℕ) → Walk grid c true o 0 from first
+    → Walked grid c weights counts o 0 from first 0 0
+unfolding sum
+walked-none grid c weights counts o from first w = record { walk = w; faces-are = refl; tiles-are = refl }
 
-  module _ (t : ℕ) (l : t < getD (grid .cuts) c 0) (at : Coordinated) (first faces tiles : ℕ) (w : Walked grid c weights counts o t at first faces tiles)
-      (after : ℕ) (e : after ≡ slabStart (getD (grid .extents) c 0) (getD (grid .cuts) c 0) (t + 1)) where
-    after-is : after ≡ slabStart (getD (grid .extents) c 0) (getD (grid .cuts) c 0) (suc t)
-    after-is = e ∙ ap (slabStart (getD (grid .extents) c 0) (getD (grid .cuts) c 0)) (add-one t)
+module _ (grid : Plan) (s : Shaped grid) (c : ℕ) (lc : c < grid .d) (weights counts : List ℕ) (o t : ℕ) (l : t < getD (grid .cuts) c 0)
+    (at : Coordinated) (first faces tiles : ℕ) (w : Walked grid c weights counts o t at first faces tiles)
+    (after : ℕ) (e : after ≡ slabStart (getD (grid .extents) c 0) (getD (grid .cuts) c 0) (t + 1)) where
+  faces-more : faces + (after - first) * getD weights (at .number) 0 ≡ lineOf grid c weights (t + 1) o
+  faces-more =
+      ap₂ (λ (m n : ℕ). faces + m * getD weights n 0) (walk-side grid s c lc true o t at first (w .walk) after e) (w .walk .stands .number-is)
+      ∙ ap (λ (m : ℕ). m + thickness (getD (grid .extents) c 0) (getD (grid .cuts) c 0) t * getD weights (stepsOn (layoutOf grid .moduli) (layoutOf grid .matrix) c true t o) 0) (w .faces-are)
+      ∙ sym (line-more grid c weights o t)
 
-    pub walked-rises : first ≤ after
-    walked-rises =
-        omega (arith, after-is, w .first-is, slab-start-rises (getD (grid .extents) c 0) (getD (grid .cuts) c 0) t (s .cut-low c lc) (s .cut-fits c lc) l)
+  tiles-more : tiles + getD counts (at .number) 0 ≡ lineOf (oneEach grid) c counts (t + 1) o
+  tiles-more = ap₂ (λ (m n : ℕ). m + getD counts n 0) (w .tiles-are) (w .walk .stands .number-is) ∙ sym (count-more grid c counts o t l)
 
-    pub walked-small : at .number < 4096
-    walked-small = subst⁻¹ (λ (n : ℕ). n < 4096) (w .stands .number-is) (le-trans (w .below) (s .p-high))
+  pub walked-faces-fit : lineOf grid c weights (getD (grid .cuts) c 0) o ≤ 4294967295 → faces + (after - first) * getD weights (at .number) 0 ≤ 4294967295
+  walked-faces-fit fits = subst⁻¹ (λ (n : ℕ). n ≤ 4294967295) faces-more (le-trans (line-within grid c weights o t l) fits)
 
-    faces-more : faces + (after - first) * getD weights (at .number) 0 ≡ lineOf grid c weights (t + 1) o
-    faces-more =
-        ap₂ (λ (m n : ℕ). faces + m * getD weights n 0) (ap₂ _-_ after-is (w .first-is)) (w .stands .number-is)
-        ∙ ap (λ (m : ℕ). m + thickness (getD (grid .extents) c 0) (getD (grid .cuts) c 0) t * getD weights (stepsOn (layoutOf grid .moduli) (layoutOf grid .matrix) c true t o) 0) (w .faces-are)
-        ∙ sym (line-more grid c weights o t)
+  pub walked-tiles-fit : lineOf (oneEach grid) c counts (getD (grid .cuts) c 0) o ≤ 4294967295 → tiles + getD counts (at .number) 0 ≤ 4294967295
+  unfolding oneEach
+  walked-tiles-fit fits = subst⁻¹ (λ (n : ℕ). n ≤ 4294967295) tiles-more (le-trans (line-within (oneEach grid) c counts o t l) fits)
 
-    tiles-more : tiles + getD counts (at .number) 0 ≡ lineOf (oneEach grid) c counts (t + 1) o
-    tiles-more =
-        ap₂ (λ (m n : ℕ). m + getD counts n 0) (w .tiles-are) (w .stands .number-is)
-        ∙ sym (count-more grid c counts o t l)
-
-    pub walked-faces-fit : lineOf grid c weights (getD (grid .cuts) c 0) o ≤ 4294967295 → faces + (after - first) * getD weights (at .number) 0 ≤ 4294967295
-    walked-faces-fit fits = subst⁻¹ (λ (n : ℕ). n ≤ 4294967295) faces-more (le-trans (line-within grid c weights o t l) fits)
-
-    pub walked-tiles-fit : lineOf (oneEach grid) c counts (getD (grid .cuts) c 0) o ≤ 4294967295 → tiles + getD counts (at .number) 0 ≤ 4294967295
-    unfolding oneEach
-    walked-tiles-fit fits = subst⁻¹ (λ (n : ℕ). n ≤ 4294967295) tiles-more (le-trans (line-within (oneEach grid) c counts o t l) fits)
-
-    pub walked-more : (up : Stride) (to : Coordinated) → Strides grid c true up → Steps up at to
-        → Walked grid c weights counts o (t + 1) to after (faces + (after - first) * getD weights (at .number) 0) (tiles + getD counts (at .number) 0)
-    walked-more up to strides steps = record {
-      stands = subst (λ (n : ℕ). Stands grid n to) (steps-more grid c t o) (next-stands grid s c lc true up strides _ at (w .stands) to steps);
-      below = subst (λ (n : ℕ). n < grid .p) (steps-more grid c t o) (next-below grid s c lc true _);
-      first-is = e;
-      faces-are = faces-more;
-      tiles-are = tiles-more;
-    }
+  pub walked-more : (up : Stride) (to : Coordinated) → Strides grid c true up → Steps up at to
+      → Walked grid c weights counts o (t + 1) to after (faces + (after - first) * getD weights (at .number) 0) (tiles + getD counts (at .number) 0)
+  walked-more up to strides steps = record {
+    walk = walk-more grid s c lc true o t at first (w .walk) after e up to strides steps;
+    faces-are = faces-more;
+    tiles-are = tiles-more;
+  }
 
 -- ---- the first tile of a line, in five places
 

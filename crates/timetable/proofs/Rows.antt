@@ -35,7 +35,7 @@ sum-by-digits (suc m) b h l =
     ∙ sum-split (m * b) b (λ r. h (r % b) (r / b))
     ∙ ap₂ _+_ (sum-by-digits m b h l) (sum-cong b (λ i below. ap₂ h (digits-mod m below) (digits-div m below)))
 
-pub total-places : (cuts : List ℕ) (f : List ℕ → ℕ) → Positive cuts → total cuts f ≡ sum (product cuts) (λ r. f (placesOf cuts r))
+total-places : (cuts : List ℕ) (f : List ℕ → ℕ) → Positive cuts → total cuts f ≡ sum (product cuts) (λ r. f (placesOf cuts r))
 unfolding total placesOf Positive sum
 total-places [] f h = sym (zero-add (f []))
 total-places (b ∷ cuts) f h =

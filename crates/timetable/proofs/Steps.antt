@@ -9,7 +9,7 @@ use Prim.Native.Nat.{ℕ, zero, suc, _*_, _≤_, _<_}
 use native.Mathlib.Nat.{le-trans, mul-comm}
 use native.Mathlib.Omega.{arith}
 use borrow.Author.Tests.{lt-ltb}
-use lib.ListN.{length, getD, set, length-set}
+use lib.ListN.{length, getD, set}
 use lib.Seq.{getD-set-same, set-getD, set-set}
 use Rattle.numbers.specs.Products.{product}
 use Rattle.numbers.specs.Sums.{sum, same}
@@ -35,7 +35,7 @@ module _ (moduli : List ℕ) (matrix : List (List ℕ)) (positive : Positive mod
   steps-shift up zero q = refl
   steps-shift up (suc t) q = ap (nextOwner moduli matrix j up) (steps-shift up t q)
 
-  pub steps-below : (up : Bool) (t q : ℕ) → q < product moduli → stepsOn moduli matrix j up t q < product moduli
+  steps-below : (up : Bool) (t q : ℕ) → q < product moduli → stepsOn moduli matrix j up t q < product moduli
   unfolding stepsOn
   steps-below up zero q l = l
   steps-below up (suc t) q l = next-owner-below moduli matrix positive j up (stepsOn moduli matrix j up t q)

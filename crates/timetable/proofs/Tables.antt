@@ -1,9 +1,9 @@
 -- What the loops over thicknesses, weights and lines keep: products of thicknesses stay within those of the extents, and weights within one extent.
 use mathlib.Core.Path.{_≡_, refl, sym, ap, ap₂, _∙_, subst, subst⁻¹}
 use mathlib.Core.List.{List, [], _∷_}
-use mathlib.Core.Bool.{true, false}
+use mathlib.Core.Bool.{false}
 use Prim.Native.Nat.{ℕ, zero, suc, _+_, _-_, _*_, _≤_, _<_}
-use native.Mathlib.Nat.{not-suc-le-zero, le-of-suc-le-suc, le-refl, le-trans, mul-le-mul, one-mul, mul-one}
+use native.Mathlib.Nat.{not-suc-le-zero, le-of-suc-le-suc, le-refl, mul-le-mul, one-mul, mul-one}
 use native.Mathlib.Decide.{ℕ-discrete}
 use native.Mathlib.Numerals.{add-one}
 use native.Mathlib.Omega.{arith}
@@ -13,7 +13,6 @@ use Rattle.numbers.specs.Products.{product}
 use Rattle.numbers.specs.Sums.{sum, same}
 use Rattle.numbers.proofs.Sums.{same-yes, same-no}
 use Rattle.multipartition.specs.Lists.{rest}
-use Rattle.multipartition.specs.Neighbours.{nextOwner}
 use Rattle.multipartition.specs.Rivals.{held}
 use Rattle.multipartition.specs.Slabs.{slabStart}
 use Rattle.multipartition.specs.Tiles.{Inside}
@@ -27,12 +26,12 @@ use Rattle.layout.specs.Shaped.{Shaped}
 use Rattle.layout.proofs.Lists.{product-add-one}
 use Rattle.questions.specs.declared.walks.Coordinated.{Coordinated}
 use Rattle.questions.specs.declared.walks.Stride.{Stride}
-use Rattle.questions.specs.Walks.{Stands, Strides, Steps}
-use Rattle.questions.proofs.Walking.{next-stands, next-below}
+use Rattle.questions.specs.Walks.{Strides, Steps}
 use Rattle.timetable.specs.Faces.{thickness, thicknesses, faceOf, facesHeld}
 use Rattle.timetable.specs.Rows.{stepsOn, weightOf, Weighed, oneEach}
 use Rattle.timetable.proofs.Faces.{Cut, sum-thickness, held-faces}
 use Rattle.timetable.proofs.Rows.{length-thicknesses}
+use Rattle.timetable.proofs.Walks.{Walk, walk-side, walk-small, walk-more}
 
 -- ---- products of thicknesses
 
@@ -138,7 +137,7 @@ weight-le moduli matrix j n b q (suc m) o =
     omega (arith, weight-le moduli matrix j n b q m o, same-mul-le (stepsOn moduli matrix j false m q) o (thickness n b m))
 
 -- with one slab more a weight is at most the extent
-pub weight-fits : (moduli : List ℕ) (matrix : List (List ℕ)) (j n b q m o : ℕ) → 1 ≤ b → b ≤ n → m < b
+weight-fits : (moduli : List ℕ) (matrix : List (List ℕ)) (j n b q m o : ℕ) → 1 ≤ b → b ≤ n → m < b
     → weightOf moduli matrix j n b q m o + thickness n b m ≤ n
 weight-fits moduli matrix j n b q m o low high l =
     omega (
@@ -160,7 +159,7 @@ module _ (plan : Plan) (j q : ℕ) where
   unfolding sum
   weighed-none = record { places = length-replicate {A = ℕ} 4096 0; weight = λ o l. zeros 4096 o }
 
-  pub weighed-more : (m o t : ℕ) (table : List ℕ) → o ≡ stepsOn (layoutOf plan .moduli) (layoutOf plan .matrix) j false m q → o < 4096
+  weighed-more : (m o t : ℕ) (table : List ℕ) → o ≡ stepsOn (layoutOf plan .moduli) (layoutOf plan .matrix) j false m q → o < 4096
       → t ≡ thickness (getD (plan .extents) j 0) (getD (plan .cuts) j 0) m → Weighed plan j q m table
       → Weighed plan j q (m + 1) (set table o (getD table o 0 + t))
   unfolding sum
@@ -193,7 +192,7 @@ module _ (plan : Plan) (j q : ℕ) where
 -- ---- a table of counts: the weights with one element in every slab
 
 module _ (plan : Plan) (j q m o : ℕ) (table : List ℕ) (small : o < 4096) (more : m < getD (plan .cuts) j 0) where
-  pub counted-fits : Weighed (oneEach plan) j q m table → getD table o 0 + 1 ≤ getD (plan .cuts) j 0
+  counted-fits : Weighed (oneEach plan) j q m table → getD table o 0 + 1 ≤ getD (plan .cuts) j 0
   unfolding oneEach
   counted-fits w =
       omega (
@@ -203,73 +202,48 @@ module _ (plan : Plan) (j q m o : ℕ) (table : List ℕ) (small : o < 4096) (mo
         thickness-of-one (getD (plan .cuts) j 0) m more,
       )
 
-  pub counted-more : o ≡ stepsOn (layoutOf plan .moduli) (layoutOf plan .matrix) j false m q → Weighed (oneEach plan) j q m table
+  counted-more : o ≡ stepsOn (layoutOf plan .moduli) (layoutOf plan .matrix) j false m q → Weighed (oneEach plan) j q m table
       → Weighed (oneEach plan) j q (m + 1) (set table o (getD table o 0 + 1))
   unfolding oneEach layoutOf
   counted-more e w = weighed-more (oneEach plan) j q m o 1 table e small (sym (thickness-of-one (getD (plan .cuts) j 0) m more)) w
 
 -- ---- both tables as they are filled
 
--- for the first t slabs, with the walk down from q and where the next slab starts
+-- the walk down from q with the tables of the first t slabs
 pub record Sharing (plan : Plan) (j q t : ℕ) (weights counts : List ℕ) (at : Coordinated) (first : ℕ) : Type 0 where
-  pub stands : Stands plan (stepsOn (layoutOf plan .moduli) (layoutOf plan .matrix) j false t q) at
-  pub below : stepsOn (layoutOf plan .moduli) (layoutOf plan .matrix) j false t q < plan .p
-  pub first-is : first ≡ slabStart (getD (plan .extents) j 0) (getD (plan .cuts) j 0) t
+  pub walk : Walk plan j false q t at first
   pub weighed : Weighed plan j q t weights
   pub counted : Weighed (oneEach plan) j q t counts
 
-module _ (plan : Plan) (s : Shaped plan) (j : ℕ) (lj : j < plan .d) (q : ℕ) (lq : q < plan .p) where
-  pub sharing-none : (weights counts : List ℕ) (at : Coordinated) (first : ℕ) → Stands plan q at
-      → first ≡ slabStart (getD (plan .extents) j 0) (getD (plan .cuts) j 0) 0 → Weighed plan j q 0 weights → Weighed (oneEach plan) j q 0 counts
-      → Sharing plan j q 0 weights counts at first
-  unfolding stepsOn
-  sharing-none weights counts at first stands e w u = record { stands = stands; below = lq; first-is = e; weighed = w; counted = u }
+module _ (plan : Plan) (s : Shaped plan) (j : ℕ) (lj : j < plan .d) (q t : ℕ) (l : t < getD (plan .cuts) j 0) (weights counts : List ℕ)
+    (at : Coordinated) (first : ℕ) (w : Sharing plan j q t weights counts at first)
+    (after : ℕ) (e : after ≡ slabStart (getD (plan .extents) j 0) (getD (plan .cuts) j 0) (t + 1)) where
+  small : at .number < 4096
+  small = walk-small plan s j lj false q t at first (w .walk)
 
-  module _ (t : ℕ) (l : t < getD (plan .cuts) j 0) (weights counts : List ℕ) (at : Coordinated) (first : ℕ) (w : Sharing plan j q t weights counts at first)
-      (after : ℕ) (e : after ≡ slabStart (getD (plan .extents) j 0) (getD (plan .cuts) j 0) (t + 1)) where
-    abbrev o : ℕ
-    o = stepsOn (layoutOf plan .moduli) (layoutOf plan .matrix) j false t q
+  side : after - first ≡ thickness (getD (plan .extents) j 0) (getD (plan .cuts) j 0) t
+  side = walk-side plan s j lj false q t at first (w .walk) after e
 
-    small : o < 4096
-    small = le-trans (w .below) (s .p-high)
+  pub weight-asked : (at .number < length weights) × (getD weights (at .number) 0 + (after - first) ≤ 4294967295)
+  weight-asked =
+      rw (w .weighed .places) (
+        small,
+        omega (
+          arith,
+          side,
+          w .weighed .weight (at .number) small,
+          weight-fits (layoutOf plan .moduli) (layoutOf plan .matrix) j (getD (plan .extents) j 0) (getD (plan .cuts) j 0) q t (at .number) (s .cut-low j lj) (s .cut-fits j lj) l,
+          s .extent-high j lj,
+        ),
+      )
 
-    after-is : after ≡ slabStart (getD (plan .extents) j 0) (getD (plan .cuts) j 0) (suc t)
-    after-is = e ∙ ap (slabStart (getD (plan .extents) j 0) (getD (plan .cuts) j 0)) (add-one t)
+  pub count-asked : (at .number < length counts) × (getD counts (at .number) 0 + 1 ≤ 4294967295)
+  count-asked = rw (w .counted .places) (small, omega (arith, counted-fits plan j q t (at .number) counts small l (w .counted), s .cut-high j lj))
 
-    side : after - first ≡ thickness (getD (plan .extents) j 0) (getD (plan .cuts) j 0) t
-    side = ap₂ _-_ after-is (w .first-is)
-
-    pub sharing-rises : first ≤ after
-    sharing-rises =
-        omega (arith, after-is, w .first-is, slab-start-rises (getD (plan .extents) j 0) (getD (plan .cuts) j 0) t (s .cut-low j lj) (s .cut-fits j lj) l)
-
-    pub weight-asked : (at .number < length weights) × (getD weights (at .number) 0 + (after - first) ≤ 4294967295)
-    weight-asked =
-        rw (w .stands .number-is, w .weighed .places) (
-          small,
-          omega (
-            arith,
-            side,
-            w .weighed .weight o small,
-            weight-fits (layoutOf plan .moduli) (layoutOf plan .matrix) j (getD (plan .extents) j 0) (getD (plan .cuts) j 0) q t o (s .cut-low j lj) (s .cut-fits j lj) l,
-            s .extent-high j lj,
-          ),
-        )
-
-    pub count-asked : (at .number < length counts) × (getD counts (at .number) 0 + 1 ≤ 4294967295)
-    count-asked =
-        rw (w .stands .number-is, w .counted .places) (small, omega (arith, counted-fits plan j q t o counts small l (w .counted), s .cut-high j lj))
-
-    pub sharing-more : (down : Stride) (to : Coordinated) → Strides plan j false down → Steps down at to
-        → Sharing plan j q (t + 1) (set weights (at .number) (getD weights (at .number) 0 + (after - first))) (set counts (at .number) (getD counts (at .number) 0 + 1)) to after
-    unfolding stepsOn
-    sharing-more down to strides steps = record {
-      stands = subst (λ (n : ℕ). Stands plan n to) onward (next-stands plan s j lj false down strides o at (w .stands) to steps);
-      below = subst (λ (n : ℕ). n < plan .p) onward (next-below plan s j lj false o);
-      first-is = e;
-      weighed = weighed-more plan j q t (at .number) (after - first) weights (w .stands .number-is) (subst⁻¹ (λ (n : ℕ). n < 4096) (w .stands .number-is) small) side (w .weighed);
-      counted = counted-more plan j q t (at .number) counts (subst⁻¹ (λ (n : ℕ). n < 4096) (w .stands .number-is) small) l (w .stands .number-is) (w .counted);
-    }
-      where
-        onward : nextOwner (layoutOf plan .moduli) (layoutOf plan .matrix) j false o ≡ stepsOn (layoutOf plan .moduli) (layoutOf plan .matrix) j false (t + 1) q
-        onward = ap (λ (n : ℕ). stepsOn (layoutOf plan .moduli) (layoutOf plan .matrix) j false n q) (sym (add-one t))
+  pub sharing-more : (down : Stride) (to : Coordinated) → Strides plan j false down → Steps down at to
+      → Sharing plan j q (t + 1) (set weights (at .number) (getD weights (at .number) 0 + (after - first))) (set counts (at .number) (getD counts (at .number) 0 + 1)) to after
+  sharing-more down to strides steps = record {
+    walk = walk-more plan s j lj false q t at first (w .walk) after e down to strides steps;
+    weighed = weighed-more plan j q t (at .number) (after - first) weights (w .walk .stands .number-is) small side (w .weighed);
+    counted = counted-more plan j q t (at .number) counts small l (w .walk .stands .number-is) (w .counted);
+  }

@@ -39,7 +39,7 @@ use Rattle.timetable.proofs.Answers.{Asked, timetable-answered}
 
 -- ---- steps and slabs
 
-pub slab-visited-below : (b : ℕ) (up : Bool) (s : ℕ) → s < b → slabVisited b up s < b
+slab-visited-below : (b : ℕ) (up : Bool) (s : ℕ) → s < b → slabVisited b up s < b
 slab-visited-below b true s l = l
 slab-visited-below b false s l = omega arith
 
@@ -109,7 +109,7 @@ module _ (plan : Layout) (shape : inShape plan ≡ true) (k : ℕ) where
           (sym (neighbour-some (plan .cuts) (plan .moduli) (plan .matrix) (k - 1) up q cut) ∙ e)
 
   -- What q holds in the slab of a step, its neighbour in the sweep's direction holds in the slab of the next.
-  pub faces-move : (up : Bool) (s q r : ℕ) → suc s < cutOf plan k → q < plan .p → neighbourIn plan k up q ≡ some r
+  faces-move : (up : Bool) (s q r : ℕ) → suc s < cutOf plan k → q < plan .p → neighbourIn plan k up q ≡ some r
       → facesAt plan k up s q ≡ facesAt plan k up (suc s) r
   unfolding facesAt
   faces-move up s q r l lq e =
@@ -140,7 +140,7 @@ module _ (plan : Layout) (shape : inShape plan ≡ true) (k : ℕ) where
           ∙ in-shape-neighbour-returns plan shape (k - 1) up q r lq e)
 
   -- In every slab that is visited the faces of all processors add up to the product of the other extents.
-  pub faces-add-up : length (plan .extents) ≡ plan .d → length (plan .cuts) ≡ plan .d → (up : Bool) (s : ℕ) → s < cutOf plan k
+  faces-add-up : length (plan .extents) ≡ plan .d → length (plan .cuts) ≡ plan .d → (up : Bool) (s : ℕ) → s < cutOf plan k
       → sum (plan .p) (facesAt plan k up s) ≡ otherExtents plan k
   unfolding facesAt
   faces-add-up extents-many cuts-many up s l =

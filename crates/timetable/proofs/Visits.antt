@@ -94,20 +94,20 @@ module _ (plan : Layout) (k : ℕ) (up : Bool) (s q : ℕ) where
     refused-7-above low l = rw (shape, le-leb 1 k low, lt-leb k (plan .d) l)
 
     module _ (dimension : between 1 (plan .d) k ≡ true) where
-      pub refused-11 : leb (otherExtents plan k) 4294967295 ≡ false → refused 11 0 ≡ timetableAnswer plan k up s q
+      refused-11 : leb (otherExtents plan k) 4294967295 ≡ false → refused 11 0 ≡ timetableAnswer plan k up s q
       unfolding timetableAnswer
       refused-11 e = rw (shape, dimension, e)
 
       module _ (lengths : leb (otherExtents plan k) 4294967295 ≡ true) where
-        pub refused-8-step : cutOf plan k ≤ s → refused 8 0 ≡ timetableAnswer plan k up s q
+        refused-8-step : cutOf plan k ≤ s → refused 8 0 ≡ timetableAnswer plan k up s q
         unfolding timetableAnswer
         refused-8-step h = rw (shape, dimension, lengths, le-ltb s (cutOf plan k) h)
 
-        pub refused-8-processor : s < cutOf plan k → plan .p ≤ q → refused 8 0 ≡ timetableAnswer plan k up s q
+        refused-8-processor : s < cutOf plan k → plan .p ≤ q → refused 8 0 ≡ timetableAnswer plan k up s q
         unfolding timetableAnswer
         refused-8-processor l h = rw (shape, dimension, lengths, lt-ltb s (cutOf plan k) l, le-ltb q (plan .p) h)
 
-        pub visited : s < cutOf plan k → q < plan .p → answered (visitOf plan k up s q) ≡ timetableAnswer plan k up s q
+        visited : s < cutOf plan k → q < plan .p → answered (visitOf plan k up s q) ≡ timetableAnswer plan k up s q
         unfolding timetableAnswer
         visited l h = rw (shape, dimension, lengths, lt-ltb s (cutOf plan k) l, lt-ltb q (plan .p) h)
 

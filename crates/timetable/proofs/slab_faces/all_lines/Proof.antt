@@ -6,7 +6,7 @@ use native.Mathlib.Omega.{arith}
 use lib.Dec.{lit<}
 use Rattle.numbers.specs.Products.{product}
 use Rattle.numbers.specs.Sums.{sum}
-use Rattle.numbers.proofs.Sums.{sum-term-le, sum-add-one, sum-front-le}
+use Rattle.numbers.proofs.Sums.{sum-add-one, sum-front-le}
 use Rattle.layout.specs.Plans.{layoutOf}
 use Rattle.timetable.specs.Rows.{slabLine, oneEach}
 use Rattle.timetable.proofs.Lines.{one-of-lines}

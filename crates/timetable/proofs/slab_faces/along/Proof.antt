@@ -8,7 +8,8 @@ use lib.Dec.{lit<}
 use lib.ListN.{getD}
 use Rattle.questions.proofs.Walking.{next-asked}
 use Rattle.timetable.specs.Rows.{lineOf, oneEach}
-use Rattle.timetable.proofs.Lines.{Walked, walked-none, walked-rises, walked-small, walked-faces-fit, walked-tiles-fit, walked-more}
+use Rattle.timetable.proofs.Lines.{Walked, walked-none, walked-faces-fit, walked-tiles-fit, walked-more}
+use Rattle.timetable.proofs.Walks.{walk-none, walk-rises, walk-small}
 use borrow.Author.Needs.{needs}
 use Rattle.timetable.proofs.slab_faces.along.Statement.{statement}
 use Rattle.timetable.proofs.slab_faces.along.Tie as tie
@@ -35,7 +36,7 @@ start-requires : tie.Need-start-requires Inv-loop μ-loop
 start-requires c κs = let s = c .before .before .before .before in (s .pre .2 .shape .extent-high (s .args .c) (s .pre .2 .along), s .pre .2 .shape .cut-low (s .args .c) (s .pre .2 .along), s .pre .2 .shape .cut-high (s .args .c) (s .pre .2 .along), omega arith)
 
 loop-holds : tie.Need-loop-holds Inv-loop μ-loop
-loop-holds c = let s = c .before .before .before .before .before in (omega arith, walked-none (s .args .t1) (s .pre .2 .shape) (s .args .c) (s .pre .2 .along) (s .args .weights .now) (s .args .counts .now) (s .args .from .number) (s .pre .2 .processor) (s .args .from) (c .start .result) (s .pre .0) (c .start .ensures))
+loop-holds c = let s = c .before .before .before .before .before in (omega arith, walked-none (s .args .t1) (s .args .c) (s .args .weights .now) (s .args .counts .now) (s .args .from .number) (s .args .from) (c .start .result) (walk-none (s .args .t1) (s .pre .2 .shape) (s .args .c) (s .pre .2 .along) true (s .args .from .number) (s .args .from) (c .start .result) (s .pre .2 .processor) (s .pre .0) (c .start .ensures)))
 
 mul-start-2 : tie.Need-mul-start-2 Inv-loop μ-loop
 mul-start-2 c = search needs
@@ -56,48 +57,48 @@ sub-faces : tie.Need-sub-faces Inv-loop μ-loop
 sub-faces c =
     let s = c .before .before .before .before .before .before .before .before .before .before in
     let l = c .before .before .before .before .loop in
-    walked-rises (s .args .t1) (s .pre .2 .shape) (s .args .c) (s .pre .2 .along) (s .args .weights .now) (s .args .counts .now) (s .args .from .number) (s .pre .2 .processor) (l .t) (omega arith) (l .at) (l .first) (l .faces) (l .tiles) (l .inv .1) (c .before .start2 .result) (c .before .start2 .ensures)
+    walk-rises (s .args .t1) (s .pre .2 .shape) (s .args .c) (s .pre .2 .along) true (s .args .from .number) (l .t) (l .at) (l .first) (l .inv .1 .walk) (c .before .start2 .result) (c .before .start2 .ensures) (omega arith)
 
 mul-faces : tie.Need-mul-faces Inv-loop μ-loop
 mul-faces c =
     let small = let s = c .before .before .before .before .before .before .before .before .before .before in
     let l = c .before .before .before .before .loop in
-    walked-small (s .args .t1) (s .pre .2 .shape) (s .args .c) (s .pre .2 .along) (s .args .weights .now) (s .args .counts .now) (s .args .from .number) (s .pre .2 .processor) (l .t) (omega arith) (l .at) (l .first) (l .faces) (l .tiles) (l .inv .1) (c .before .start2 .result) (c .before .start2 .ensures) in
+    walk-small (s .args .t1) (s .pre .2 .shape) (s .args .c) (s .pre .2 .along) true (s .args .from .number) (l .t) (l .at) (l .first) (l .inv .1 .walk) in
     record { fits = omega (arith, small) }
 
 shared-slice-read-faces : tie.Need-shared-slice-read-faces Inv-loop μ-loop
 shared-slice-read-faces c =
     let small = let s = c .before .before .before .before .before .before .before .before .before .before .before in
     let l = c .before .before .before .before .before .loop in
-    walked-small (s .args .t1) (s .pre .2 .shape) (s .args .c) (s .pre .2 .along) (s .args .weights .now) (s .args .counts .now) (s .args .from .number) (s .pre .2 .processor) (l .t) (omega arith) (l .at) (l .first) (l .faces) (l .tiles) (l .inv .1) (c .before .before .start2 .result) (c .before .before .start2 .ensures) in
+    walk-small (s .args .t1) (s .pre .2 .shape) (s .args .c) (s .pre .2 .along) true (s .args .from .number) (l .t) (l .at) (l .first) (l .inv .1 .walk) in
     omega (arith, small, (c .before .before .before .before .before .before .before .before .before .before .before) .pre .2 .places)
 
 mul-faces-2 : tie.Need-mul-faces-2 Inv-loop μ-loop
 mul-faces-2 c =
     let fits = let s = c .before .before .before .before .before .before .before .before .before .before .before in
     let l = c .before .before .before .before .before .loop in
-    walked-faces-fit (s .args .t1) (s .pre .2 .shape) (s .args .c) (s .pre .2 .along) (s .args .weights .now) (s .args .counts .now) (s .args .from .number) (s .pre .2 .processor) (l .t) (omega arith) (l .at) (l .first) (l .faces) (l .tiles) (l .inv .1) (c .before .before .start2 .result) (c .before .before .start2 .ensures) (s .pre .2 .fits) in
+    walked-faces-fit (s .args .t1) (s .pre .2 .shape) (s .args .c) (s .pre .2 .along) (s .args .weights .now) (s .args .counts .now) (s .args .from .number) (l .t) (omega arith) (l .at) (l .first) (l .faces) (l .tiles) (l .inv .1) (c .before .before .start2 .result) (c .before .before .start2 .ensures) (s .pre .2 .fits) in
     record { fits = lt-of-le-of-lt (le-trans (le-add-left _ _) fits) (lit< tt) }
 
 add-faces : tie.Need-add-faces Inv-loop μ-loop
 add-faces c = record {
   fits = lt-of-le-of-lt (let s = c .before .before .before .before .before .before .before .before .before .before .before in
       let l = c .before .before .before .before .before .loop in
-      walked-faces-fit (s .args .t1) (s .pre .2 .shape) (s .args .c) (s .pre .2 .along) (s .args .weights .now) (s .args .counts .now) (s .args .from .number) (s .pre .2 .processor) (l .t) (omega arith) (l .at) (l .first) (l .faces) (l .tiles) (l .inv .1) (c .before .before .start2 .result) (c .before .before .start2 .ensures) (s .pre .2 .fits)) (lit< tt);
+      walked-faces-fit (s .args .t1) (s .pre .2 .shape) (s .args .c) (s .pre .2 .along) (s .args .weights .now) (s .args .counts .now) (s .args .from .number) (l .t) (omega arith) (l .at) (l .first) (l .faces) (l .tiles) (l .inv .1) (c .before .before .start2 .result) (c .before .before .start2 .ensures) (s .pre .2 .fits)) (lit< tt);
 }
 
 mul-tiles : tie.Need-mul-tiles Inv-loop μ-loop
 mul-tiles c =
     let small = let s = c .before .before .before .before .before .before .before .before .before .before .before in
     let l = c .before .before .before .before .before .loop in
-    walked-small (s .args .t1) (s .pre .2 .shape) (s .args .c) (s .pre .2 .along) (s .args .weights .now) (s .args .counts .now) (s .args .from .number) (s .pre .2 .processor) (l .t) (omega arith) (l .at) (l .first) (l .faces) (l .tiles) (l .inv .1) (c .before .before .start2 .result) (c .before .before .start2 .ensures) in
+    walk-small (s .args .t1) (s .pre .2 .shape) (s .args .c) (s .pre .2 .along) true (s .args .from .number) (l .t) (l .at) (l .first) (l .inv .1 .walk) in
     record { fits = omega (arith, small) }
 
 shared-slice-read-tiles : tie.Need-shared-slice-read-tiles Inv-loop μ-loop
 shared-slice-read-tiles c =
     let small = let s = c .before .before .before .before .before .before .before .before .before .before .before .before in
     let l = c .before .before .before .before .before .before .loop in
-    walked-small (s .args .t1) (s .pre .2 .shape) (s .args .c) (s .pre .2 .along) (s .args .weights .now) (s .args .counts .now) (s .args .from .number) (s .pre .2 .processor) (l .t) (omega arith) (l .at) (l .first) (l .faces) (l .tiles) (l .inv .1) (c .before .before .before .start2 .result) (c .before .before .before .start2 .ensures) in
+    walk-small (s .args .t1) (s .pre .2 .shape) (s .args .c) (s .pre .2 .along) true (s .args .from .number) (l .t) (l .at) (l .first) (l .inv .1 .walk) in
     omega (arith, small, (c .before .before .before .before .before .before .before .before .before .before .before .before) .pre .3 .places)
 
 add-tiles : tie.Need-add-tiles Inv-loop μ-loop
@@ -105,14 +106,14 @@ unfolding oneEach
 add-tiles c = record {
   fits = lt-of-le-of-lt (let s = c .before .before .before .before .before .before .before .before .before .before .before .before in
       let l = c .before .before .before .before .before .before .loop in
-      walked-tiles-fit (s .args .t1) (s .pre .2 .shape) (s .args .c) (s .pre .2 .along) (s .args .weights .now) (s .args .counts .now) (s .args .from .number) (s .pre .2 .processor) (l .t) (omega arith) (l .at) (l .first) (l .faces) (l .tiles) (l .inv .1) (c .before .before .before .start2 .result) (c .before .before .before .start2 .ensures) (s .pre .3 .fits)) (lit< tt);
+      walked-tiles-fit (s .args .t1) (s .pre .2 .shape) (s .args .c) (s .pre .2 .along) (s .args .weights .now) (s .args .counts .now) (s .args .from .number) (l .t) (omega arith) (l .at) (l .first) (l .faces) (l .tiles) (l .inv .1) (c .before .before .before .start2 .result) (c .before .before .before .start2 .ensures) (s .pre .3 .fits)) (lit< tt);
 }
 
 next-requires : tie.Need-next-requires Inv-loop μ-loop
 next-requires c κs =
     let s = c .before .before .before .before .before .before .before .before .before .before .before .before in
     let l = c .before .before .before .before .before .before .loop in
-    next-asked (s .args .t1) (s .pre .2 .shape) (s .args .c) (s .pre .2 .along) true (s .args .up) (s .pre .1) _ (l .at) (l .inv .1 .stands)
+    next-asked (s .args .t1) (s .pre .2 .shape) (s .args .c) (s .pre .2 .along) true (s .args .up) (s .pre .1) _ (l .at) (l .inv .1 .walk .stands)
 
 add-t : tie.Need-add-t Inv-loop μ-loop
 add-t c = let s = c .before .before .before .before .before .before .before .before .before .before .before .before .before in record { fits = omega (arith, s .pre .2 .shape .cut-high (s .args .c) (s .pre .2 .along)) }
@@ -125,7 +126,7 @@ loop-again c = (
   omega arith,
   let s = c .before .before .before .before .before .before .before .before .before .before .before .before .before in
       let l = c .before .before .before .before .before .before .before .loop in
-      walked-more (s .args .t1) (s .pre .2 .shape) (s .args .c) (s .pre .2 .along) (s .args .weights .now) (s .args .counts .now) (s .args .from .number) (s .pre .2 .processor) (l .t) (omega arith) (l .at) (l .first) (l .faces) (l .tiles) (l .inv .1) (c .before .before .before .before .start2 .result) (c .before .before .before .before .start2 .ensures) (s .args .up) (c .next .result) (s .pre .1) (c .next .ensures),
+      walked-more (s .args .t1) (s .pre .2 .shape) (s .args .c) (s .pre .2 .along) (s .args .weights .now) (s .args .counts .now) (s .args .from .number) (l .t) (omega arith) (l .at) (l .first) (l .faces) (l .tiles) (l .inv .1) (c .before .before .before .before .start2 .result) (c .before .before .before .before .start2 .ensures) (s .args .up) (c .next .result) (s .pre .1) (c .next .ensures),
 )
 
 returns : tie.Need-returns Inv-loop μ-loop

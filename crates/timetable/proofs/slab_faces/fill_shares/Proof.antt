@@ -5,9 +5,9 @@ use Prim.Native.Nat.{ℕ, _-_, _≤_, _<_}
 use native.Mathlib.Omega.{arith}
 use lib.ListN.{getD}
 use Rattle.questions.proofs.Walking.{next-asked}
-use Rattle.questions.specs.Walks.{Strides}
 use Rattle.timetable.specs.Rows.{Weighed, oneEach}
-use Rattle.timetable.proofs.Tables.{Sharing, sharing-none, sharing-rises, weight-asked, count-asked, sharing-more}
+use Rattle.timetable.proofs.Tables.{Sharing, weight-asked, count-asked, sharing-more}
+use Rattle.timetable.proofs.Walks.{walk-none, walk-rises}
 use borrow.Author.Needs.{needs}
 use Rattle.timetable.proofs.slab_faces.fill_shares.Statement.{statement}
 use Rattle.timetable.proofs.slab_faces.fill_shares.Tie as tie
@@ -42,7 +42,7 @@ start-requires c κs = let s = c .before .before .before .before .before .before
 loop-holds : tie.Need-loop-holds Inv-loop μ-loop
 loop-holds c =
     let s = c .before .before .before .before .before .before .before in
-    (omega arith, sharing-none (s .args .t1) (s .pre .0) (s .args .j) (s .pre .1) (s .args .q) (s .pre .2) (s .args .weights .now) (s .args .counts .now) (c .before .before .with-coordinates .result) (c .start .result) (c .before .before .with-coordinates .ensures) (c .start .ensures) (s .pre .3) (s .pre .4))
+    (omega arith, record { walk = walk-none (s .args .t1) (s .pre .0) (s .args .j) (s .pre .1) false (s .args .q) _ _ (s .pre .2) (c .before .before .with-coordinates .ensures) (c .start .ensures); weighed = s .pre .3; counted = s .pre .4 })
 
 mul-start-2 : tie.Need-mul-start-2 Inv-loop μ-loop
 mul-start-2 c = search needs
@@ -63,25 +63,25 @@ sub-add-at : tie.Need-sub-add-at Inv-loop μ-loop
 sub-add-at c =
     let s = c .before .before .before .before .before .before .before .before .before .before .before .before .before in
     let l = c .before .before .before .before .before .loop in
-    sharing-rises (s .args .t1) (s .pre .0) (s .args .j) (s .pre .1) (s .args .q) (s .pre .2) (l .t) (omega arith) (l .weights) (l .counts) (l .at) (l .first) (l .inv .1) (c .before .before .start2 .result) (c .before .before .start2 .ensures)
+    walk-rises (s .args .t1) (s .pre .0) (s .args .j) (s .pre .1) false (s .args .q) (l .t) (l .at) (l .first) (l .inv .1 .walk) (c .before .before .start2 .result) (c .before .before .start2 .ensures) (omega arith)
 
 add-at-requires : tie.Need-add-at-requires Inv-loop μ-loop
 add-at-requires c κs =
     let s = c .before .before .before .before .before .before .before .before .before .before .before .before .before in
     let l = c .before .before .before .before .before .loop in
-    weight-asked (s .args .t1) (s .pre .0) (s .args .j) (s .pre .1) (s .args .q) (s .pre .2) (l .t) (omega arith) (l .weights) (l .counts) (l .at) (l .first) (l .inv .1) (c .before .before .start2 .result) (c .before .before .start2 .ensures)
+    weight-asked (s .args .t1) (s .pre .0) (s .args .j) (s .pre .1) (s .args .q) (l .t) (omega arith) (l .weights) (l .counts) (l .at) (l .first) (l .inv .1) (c .before .before .start2 .result) (c .before .before .start2 .ensures)
 
 add-at-requires-2 : tie.Need-add-at-requires-2 Inv-loop μ-loop
 add-at-requires-2 c κs =
     let s = c .before .before .before .before .before .before .before .before .before .before .before .before .before .before .before .before .before in
     let l = c .before .before .before .before .before .before .before .before .before .loop in
-    count-asked (s .args .t1) (s .pre .0) (s .args .j) (s .pre .1) (s .args .q) (s .pre .2) (l .t) (omega arith) (l .weights) (l .counts) (l .at) (l .first) (l .inv .1) (c .before .before .before .before .before .before .start2 .result) (c .before .before .before .before .before .before .start2 .ensures)
+    count-asked (s .args .t1) (s .pre .0) (s .args .j) (s .pre .1) (s .args .q) (l .t) (omega arith) (l .weights) (l .counts) (l .at) (l .first) (l .inv .1) (c .before .before .before .before .before .before .start2 .result) (c .before .before .before .before .before .before .start2 .ensures)
 
 next-requires : tie.Need-next-requires Inv-loop μ-loop
 next-requires c κs =
     let s = c .before .before .before .before .before .before .before .before .before .before .before .before .before .before .before .before .before .before .before .before in
     let l = c .before .before .before .before .before .before .before .before .before .before .before .before .loop in
-    next-asked (s .args .t1) (s .pre .0) (s .args .j) (s .pre .1) false _ (c .before .before .before .before .before .before .before .before .before .before .before .before .before .before .before .before .stride-along .ensures) _ (l .at) (l .inv .1 .stands)
+    next-asked (s .args .t1) (s .pre .0) (s .args .j) (s .pre .1) false _ (c .before .before .before .before .before .before .before .before .before .before .before .before .before .before .before .before .stride-along .ensures) _ (l .at) (l .inv .1 .walk .stands)
 
 add-t : tie.Need-add-t Inv-loop μ-loop
 add-t c = let s = c .before .before .before .before .before .before .before .before .before .before .before .before .before .before .before .before .before .before .before .before .before in record { fits = omega (arith, s .pre .0 .cut-high (s .args .j) (s .pre .1)) }
@@ -97,7 +97,7 @@ loop-again c =
     let start = c .before .before .before .before .before .before .before .before .before .before .start2 in (
       omega (arith, more),
       rw (c .before .before .before .before .before .before .before .add-at .ensures, c .before .before .before .add-at2 .ensures)
-          (sharing-more (s .args .t1) (s .pre .0) (s .args .j) (s .pre .1) (s .args .q) (s .pre .2) (l .t) more (l .weights) (l .counts) (l .at) (l .first) (l .inv .1) (start .result) (start .ensures) _ (c .next .result) (c .before .before .before .before .before .before .before .before .before .before .before .before .before .before .before .before .before .stride-along .ensures) (c .next .ensures)),
+          (sharing-more (s .args .t1) (s .pre .0) (s .args .j) (s .pre .1) (s .args .q) (l .t) more (l .weights) (l .counts) (l .at) (l .first) (l .inv .1) (start .result) (start .ensures) _ (c .next .result) (c .before .before .before .before .before .before .before .before .before .before .before .before .before .before .before .before .before .stride-along .ensures) (c .next .ensures)),
     )
 
 same-length : tie.Need-same-length Inv-loop μ-loop
