@@ -23,15 +23,17 @@ use Rattle.multipartition.specs.Plans.{Job, Layout, tilesOf, inShape, InShape}
 use Rattle.multipartition.specs.Questions.{cutOf}
 use Rattle.multipartition.specs.Rivals.{held}
 use Rattle.multipartition.specs.Tiles.{Inside, oneStepOn}
-use Rattle.multipartition.proofs.Chosen.{chosen-even}
+use Rattle.multipartition.proofs.Chosen.{chosen-even, chosen-length}
 use Rattle.multipartition.proofs.GridSums.{sum-cong}
 use Rattle.multipartition.proofs.Jobs.{plan-answered}
 use Rattle.multipartition.proofs.Neighbours.{neighbour-some, next-owner-below}
 use Rattle.multipartition.proofs.Owners.{owner-below-product, even-owners, share-exact}
 use Rattle.multipartition.proofs.Plans.{in-shape-iff, in-shape-moduli-positive, in-shape-neighbour-owns, in-shape-neighbour-returns}
 use Rattle.layout.specs.declared.Plan.{Plan}
-use Rattle.layout.specs.Plans.{layoutOf}
+use Rattle.layout.specs.Plans.{layoutOf, planOf}
+use Rattle.layout.specs.Sized.{Sized}
 use Rattle.layout.proofs.Places.{extents-length, cuts-length}
+use Rattle.layout.proofs.Plans.{layout-of-plan, layout-with-sized}
 use Rattle.layout.proofs.Shaped.{shaped}
 use Rattle.timetable.specs.Timetable.{ownerIn, neighbourIn, otherExtents, slabVisited, facesAt, Message, messageWith, lengthOf, sendsAfter, expectsBefore, Visit, visitOf, timetableAnswer, Sends, Expects, sentIn}
 use Rattle.timetable.proofs.Faces.{Cut, held-faces-move, held-faces-add-up}
@@ -288,12 +290,11 @@ module _ (plan : Plan) (k : ℕ) (up : Bool) (s q : ℕ) (visit : Visit) (e : ti
 
 -- ---- the planner's plans
 
--- "every processor owns exactly tiles / (bk · p) tiles of each slab": so many it works on in every step, and the share is not rounded
-pub planner-tiles : (job : Job) (plan : Layout) → planAnswer job ≡ answered plan → (k : ℕ) (up : Bool) (s q : ℕ) (visit : Visit)
+layout-tiles : (job : Job) (plan : Layout) → planAnswer job ≡ answered plan → (k : ℕ) (up : Bool) (s q : ℕ) (visit : Visit)
     → timetableAnswer plan k up s q ≡ answered visit
     → (visit .tiles ≡ tilesOf plan / (cutOf plan k * plan .p)) × (cutOf plan k * plan .p ∣ tilesOf plan)
 unfolding ownerOf
-planner-tiles job plan made k up s q visit e = (
+layout-tiles job plan made k up s q visit e = (
   tiles-are-held plan k up s q visit e
       ∙ ap (λ (v : ℕ). held (plan .cuts) (ownerIn plan) (k - 1) v q) (slab-is plan k up s q visit e)
       ∙ ap (λ (own : List ℕ → ℕ). held (plan .cuts) own (k - 1) (slabVisited (cutOf plan k) up s) q) owner-is
@@ -320,3 +321,21 @@ planner-tiles job plan made k up s q visit e = (
 
     owner-is : ownerIn plan ≡ ownerOf (job .p) (plan .cuts)
     owner-is = ap (λ (l : Layout). ownerAt (l .moduli) (l .matrix)) (planned .plan-is)
+
+-- "every processor owns exactly tiles / (bk · p) tiles of each slab": so many it works on in every step, and the share is not rounded. The planner's
+-- plan is by value, as `plan_job` answers it.
+pub planner-tiles : (job : Job) (layout : Layout) → planAnswer job ≡ answered layout → (k : ℕ) (up : Bool) (s q : ℕ) (visit : Visit)
+    → timetableAnswer (layoutOf (planOf layout)) k up s q ≡ answered visit
+    → (visit .tiles ≡ tilesOf layout / (cutOf layout k * layout .p)) × (cutOf layout k * layout .p ∣ tilesOf layout)
+planner-tiles job layout made k up s q visit e =
+    layout-tiles job layout made k up s q visit (subst (λ (l : Layout). timetableAnswer l k up s q ≡ answered visit) (layout-of-plan layout sized) e)
+  where
+    planned : PlanFor job layout
+    planned = plan-answered job layout made
+
+    sized : Sized layout
+    sized =
+        let passed = planned .passed in
+        let many = chosen-length job (layout .cuts) (planned .cuts-are) ∙ passed .extents-many in
+        subst⁻¹ Sized (planned .plan-is)
+        (layout-with-sized job (layout .cuts) (omega (arith, passed .range .d-high, passed .extents-many)) (passed .extents-many) (passed .weights-many) many)
