@@ -2,5 +2,3 @@ pub mod Bounds
 pub mod Owners
 pub mod Neighbours
 pub mod Answers
-pub mod Filling
-pub mod Walking

@@ -1,7 +1,5 @@
 // Who owns a tile position, and who is the neighbour of a processor: of a plan by value, or of a plan by its lists, lent, of which nothing is
 // copied.
-pub mod walks; // walks.rt: from neighbour to neighbour without a division
-
 use layout::Plan;
 ghost use mathlib.Core.Path.{_≡_};
 ghost use Prim.Native.Nat.{_%_, _*_, _<_, _≤_};
@@ -126,7 +124,7 @@ pub fn owner_of(plan: Plan, position: &[u32]) -> Owner
 }
 
 // A number below twice m, modulo m.
-fn modulo(m: u32, number: u32) -> u32
+pub fn modulo(m: u32, number: u32) -> u32
     requires { ⌜ number < m * 2 ⌝ }
     ensures { λ r. ⌜ r ≡ number % m ⌝ }
 {

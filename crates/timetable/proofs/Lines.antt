@@ -20,9 +20,9 @@ use Rattle.layout.specs.Plans.{layoutOf}
 use Rattle.layout.specs.Shaped.{Shaped}
 use Rattle.layout.proofs.Lists.{product-front}
 use Rattle.layout.proofs.Places.{extents-length, cuts-length, extent-at, cut-at}
-use Rattle.questions.specs.declared.walks.Coordinated.{Coordinated}
-use Rattle.questions.specs.declared.walks.Stride.{Stride}
-use Rattle.questions.specs.Walks.{Strides, Steps}
+use Rattle.walks.specs.declared.Coordinated.{Coordinated}
+use Rattle.walks.specs.declared.Stride.{Stride}
+use Rattle.walks.specs.Walks.{Strides, Steps}
 use Rattle.timetable.specs.Faces.{thickness, thicknesses}
 use Rattle.timetable.specs.Rows.{placesOf, stepsOn, lineOf, slabLine, Placed, Within, Small, LineAsked, SlabAsked, oneEach}
 use Rattle.timetable.proofs.Grids.{shaped-one-each, layout-cut, same-lengths, line-inside}

@@ -24,9 +24,9 @@ use Rattle.layout.specs.declared.Plan.{Plan}
 use Rattle.layout.specs.Plans.{layoutOf}
 use Rattle.layout.specs.Shaped.{Shaped}
 use Rattle.layout.proofs.Lists.{product-add-one}
-use Rattle.questions.specs.declared.walks.Coordinated.{Coordinated}
-use Rattle.questions.specs.declared.walks.Stride.{Stride}
-use Rattle.questions.specs.Walks.{Strides, Steps}
+use Rattle.walks.specs.declared.Coordinated.{Coordinated}
+use Rattle.walks.specs.declared.Stride.{Stride}
+use Rattle.walks.specs.Walks.{Strides, Steps}
 use Rattle.timetable.specs.Faces.{thickness, thicknesses, faceOf, facesHeld}
 use Rattle.timetable.specs.Rows.{stepsOn, weightOf, Weighed, oneEach}
 use Rattle.timetable.proofs.Faces.{Cut, sum-thickness, held-faces}

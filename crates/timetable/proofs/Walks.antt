@@ -12,20 +12,20 @@ use Rattle.multipartition.proofs.Slabs.{slab-start-rises}
 use Rattle.layout.specs.declared.Plan.{Plan}
 use Rattle.layout.specs.Plans.{layoutOf}
 use Rattle.layout.specs.Shaped.{Shaped}
-use Rattle.questions.specs.declared.walks.Coordinated.{Coordinated}
-use Rattle.questions.specs.declared.walks.Stride.{Stride}
-use Rattle.questions.specs.Walks.{Stands, Strides, Steps}
-use Rattle.questions.proofs.Walking.{next-stands, next-below}
+use Rattle.walks.specs.declared.Coordinated.{Coordinated}
+use Rattle.walks.specs.declared.Stride.{Stride}
+use Rattle.walks.specs.Walks.{IsProcessor, Strides, Steps}
+use Rattle.walks.proofs.Walking.{next-is-processor, next-below}
 use Rattle.timetable.specs.Faces.{thickness}
 use Rattle.timetable.specs.Rows.{stepsOn}
 
 pub record Walk (plan : Plan) (c : ℕ) (up : Bool) (o t : ℕ) (at : Coordinated) (first : ℕ) : Type 0 where
-  pub stands : Stands plan (stepsOn (layoutOf plan .moduli) (layoutOf plan .matrix) c up t o) at
+  pub stands : IsProcessor plan (stepsOn (layoutOf plan .moduli) (layoutOf plan .matrix) c up t o) at
   pub below : stepsOn (layoutOf plan .moduli) (layoutOf plan .matrix) c up t o < plan .p
   pub first-is : first ≡ slabStart (getD (plan .extents) c 0) (getD (plan .cuts) c 0) t
 
 module _ (plan : Plan) (s : Shaped plan) (c : ℕ) (lc : c < plan .d) (up : Bool) (o : ℕ) where
-  pub walk-none : (from : Coordinated) (first : ℕ) → o < plan .p → Stands plan o from
+  pub walk-none : (from : Coordinated) (first : ℕ) → o < plan .p → IsProcessor plan o from
       → first ≡ slabStart (getD (plan .extents) c 0) (getD (plan .cuts) c 0) 0 → Walk plan c up o 0 from first
   unfolding stepsOn
   walk-none from first l stands e = record { stands = stands; below = l; first-is = e }
@@ -48,7 +48,7 @@ module _ (plan : Plan) (s : Shaped plan) (c : ℕ) (lc : c < plan .d) (up : Bool
       pub walk-more : (stride : Stride) (to : Coordinated) → Strides plan c up stride → Steps stride at to → Walk plan c up o (t + 1) to after
       unfolding stepsOn
       walk-more stride to strides steps = record {
-        stands = subst (λ (n : ℕ). Stands plan n to) onward (next-stands plan s c lc up stride strides _ at (w .stands) to steps);
+        stands = subst (λ (n : ℕ). IsProcessor plan n to) onward (next-is-processor plan s c lc up stride strides _ at (w .stands) to steps);
         below = subst (λ (n : ℕ). n < plan .p) onward (next-below plan s c lc up _);
         first-is = e;
       }

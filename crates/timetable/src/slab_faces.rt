@@ -2,10 +2,9 @@
 // has what a row of tiles has of the processor, for each owner of the row's first tile; then one look a row. The rows are walked in lines along the
 // widest dimension that is left, from neighbour to neighbour.
 use layout::Plan;
-use questions::walks;
-use questions::walks::Coordinated;
-use questions::walks::Stride;
 use tiles::slabs::start;
+use walks::Coordinated;
+use walks::Stride;
 ghost use mathlib.Core.Bool.{true, false};
 ghost use mathlib.Core.Logic.{_≢_};
 ghost use mathlib.Core.Path.{_≡_};
@@ -17,7 +16,7 @@ ghost use Rattle.multipartition.specs.Owners.{ownerAt};
 ghost use Rattle.multipartition.specs.Rivals.{held};
 ghost use Rattle.layout.specs.Plans.{layoutOf};
 ghost use Rattle.layout.specs.Shaped.{Shaped};
-ghost use Rattle.questions.specs.Walks.{Stands, Strides};
+ghost use Rattle.walks.specs.Walks.{IsProcessor, Strides};
 ghost use Rattle.timetable.specs.Faces.{thickness, thicknesses, facesHeld};
 ghost use Rattle.timetable.specs.Timetable.{ownerIn, otherExtents};
 ghost use Rattle.timetable.specs.Rows.{Placed, Within, Small, Weighed, lineOf, slabLine, LineAsked, SlabAsked, flattened, oneEach};
@@ -148,7 +147,7 @@ fn along<'a>(
     weights: &'a [u32],
     counts: &'a [u32],
 ) -> Tally
-    requires { ⌜ (Stands grid (from .number) from) × (Strides grid c true up) × (LineAsked grid c (now weights) (from .number)) × (LineAsked (oneEach grid) c (now counts) (from .number)) ⌝ }
+    requires { ⌜ (IsProcessor grid (from .number) from) × (Strides grid c true up) × (LineAsked grid c (now weights) (from .number)) × (LineAsked (oneEach grid) c (now counts) (from .number)) ⌝ }
     ensures { λ r. ⌜ (r .faces ≡ lineOf grid c (now (weights .entry)) (getD (grid .cuts) c 0) (from .number)) × (r .tiles ≡ lineOf (oneEach grid) c (now (counts .entry)) (getD (grid .cuts) c 0) (from .number)) ⌝ }
 {
     let b = grid.cuts[c];

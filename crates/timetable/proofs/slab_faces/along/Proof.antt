@@ -6,7 +6,7 @@ use mathlib.Core.Bool.{true}
 use native.Mathlib.Omega.{arith}
 use lib.Dec.{lit<}
 use lib.ListN.{getD}
-use Rattle.questions.proofs.Walking.{next-asked}
+use Rattle.walks.proofs.Walking.{next-asked}
 use Rattle.timetable.specs.Rows.{lineOf, oneEach}
 use Rattle.timetable.proofs.Lines.{Walked, walked-none, walked-faces-fit, walked-tiles-fit, walked-more}
 use Rattle.timetable.proofs.Walks.{walk-none, walk-rises, walk-small}

@@ -4,7 +4,7 @@ use mathlib.Core.Bool.{false}
 use Prim.Native.Nat.{ℕ, _-_, _≤_, _<_}
 use native.Mathlib.Omega.{arith}
 use lib.ListN.{getD}
-use Rattle.questions.proofs.Walking.{next-asked}
+use Rattle.walks.proofs.Walking.{next-asked}
 use Rattle.timetable.specs.Rows.{Weighed, oneEach}
 use Rattle.timetable.proofs.Tables.{Sharing, weight-asked, count-asked, sharing-more}
 use Rattle.timetable.proofs.Walks.{walk-none, walk-rises}

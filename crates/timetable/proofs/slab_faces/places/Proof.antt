@@ -7,7 +7,7 @@ use lib.ListN.{length, getD, take, length-set}
 use Rattle.numbers.specs.Products.{product}
 use Rattle.layout.specs.Plans.{layoutOf}
 use Rattle.layout.proofs.Places.{cuts-length, cut-at}
-use Rattle.questions.proofs.Filling.{set-at}
+use Rattle.walks.proofs.Filling.{set-at}
 use Rattle.timetable.specs.Rows.{placesOf}
 use Rattle.timetable.proofs.Rows.{place-at, divided-more}
 use borrow.Author.Needs.{needs}

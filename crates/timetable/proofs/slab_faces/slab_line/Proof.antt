@@ -4,7 +4,7 @@ use Prim.Native.Nat.{ℕ, _≤_, _<_}
 use native.Mathlib.Nat.{lt-of-le-of-lt}
 use lib.Dec.{lit<}
 use lib.ListN.{length}
-use Rattle.questions.specs.Walks.{Stands}
+use Rattle.walks.specs.Walks.{IsProcessor}
 use Rattle.timetable.proofs.Lines.{first-within, first-small, line-is, line-asked, count-is, count-asked}
 use borrow.Author.Needs.{needs}
 use Rattle.timetable.proofs.slab_faces.slab_line.Statement.{statement}
@@ -46,7 +46,7 @@ along-requires c κs =
     let owner = c .before .owner in
     let long : length (placed .result) ≡ 5 = search needs in
     let below : from .result .number < s .args .grid .p = subst⁻¹ (λ (n : ℕ). n < s .args .grid .p) (from .ensures .number-is) (owner .ensures .1) in (
-      subst⁻¹ (λ (n : ℕ). Stands (s .args .grid) n (from .result)) (from .ensures .number-is) (from .ensures),
+      subst⁻¹ (λ (n : ℕ). IsProcessor (s .args .grid) n (from .result)) (from .ensures .number-is) (from .ensures),
       s .pre .0,
       line-asked (s .args .flat) (s .pre .1 .flat-shape) (s .args .r) (placed .result) long (placed .ensures) (s .args .k) (s .args .v) (s .args .grid) (s .pre .1 .same-d) (s .pre .1 .dimension) (s .args .c) (from .result .number) (from .ensures .number-is ∙ owner .ensures .0) (s .args .weights .now) (s .pre .1) below,
       count-asked (s .args .flat) (s .pre .1 .flat-shape) (s .args .r) (placed .result) long (placed .ensures) (s .args .k) (s .args .v) (s .args .grid) (s .pre .1 .same-d) (s .pre .1 .dimension) (s .args .c) (from .result .number) (from .ensures .number-is ∙ owner .ensures .0) (s .args .counts .now) (s .pre .2) below,

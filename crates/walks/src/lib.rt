@@ -1,11 +1,11 @@
 // Walks from neighbour to neighbour along one dimension: coordinates and stride are found once, and no step divides. Places are counted from
 // 0. A step goes through all five, so that its loop is laid out in a row: past d it adds 0 modulo 1.
-use crate::modulo;
 use layout::Plan;
+use questions::modulo;
 ghost use Prim.Native.Nat.{_<_};
 ghost use mathlib.Core.Path.{_≡_};
 ghost use Rattle.layout.specs.Shaped.{Shaped};
-ghost use Rattle.questions.specs.Walks.{Stands, strideOf, Strides, Walkable, Steps};
+ghost use Rattle.walks.specs.Walks.{IsProcessor, strideOf, Strides, Walkable, Steps};
 
 // A processor by its number and its coordinates, zero past d.
 pub struct Coordinated {
@@ -22,7 +22,7 @@ pub struct Stride {
 // The processor with its coordinates, from the last, which runs fastest, to the first.
 pub fn with_coordinates(plan: Plan, processor: u32) -> Coordinated
     requires { ⌜ Shaped plan ⌝ }
-    ensures { λ r. ⌜ Stands plan processor r ⌝ }
+    ensures { λ r. ⌜ IsProcessor plan processor r ⌝ }
 {
     let d = plan.d;
     let mut coordinates = [0; 5];

@@ -1,11 +1,11 @@
--- `questions::walks::stride_along` meets its contract. Assumes nothing.
+-- `walks::stride_along` meets its contract. Assumes nothing.
 use borrow.Author.Needs.{needs}
 use mathlib.Core.Path.{_≡_}
 use Prim.Native.Nat.{_-_, _≤_}
 use native.Mathlib.Omega.{arith}
-use Rattle.questions.proofs.Filling.{Striding, striding-none, striding-next}
-use Rattle.questions.proofs.walks.stride_along.Statement.{statement}
-use Rattle.questions.proofs.walks.stride_along.Tie as tie
+use Rattle.walks.proofs.Filling.{Striding, striding-none, striding-next}
+use Rattle.walks.proofs.stride_along.Statement.{statement}
+use Rattle.walks.proofs.stride_along.Tie as tie
 
 abbrev Inv-loop : tie.InvT-loop
 Inv-loop k up plan d moduli₀ added₀ i₀ moduli added i = (i ≤ d) × Striding plan k up i moduli added

@@ -1,12 +1,12 @@
--- `questions::walks::next` meets its contract. Assumes nothing.
+-- `walks::next` meets its contract. Assumes nothing.
 use borrow.Author.Needs.{needs}
 use mathlib.Core.Path.{_≡_}
 use Prim.Native.Nat.{_+_, _-_, _*_, _≤_, _<_}
 use native.Mathlib.Omega.{arith}
 use lib.ListN.{getD, set}
-use Rattle.questions.proofs.Filling.{Stepping, stride-modulus-high, stepping-none, stepping-next, stepping-high}
-use Rattle.questions.proofs.walks.next.Statement.{statement}
-use Rattle.questions.proofs.walks.next.Tie as tie
+use Rattle.walks.proofs.Filling.{Stepping, stride-modulus-high, stepping-none, stepping-next, stepping-high}
+use Rattle.walks.proofs.next.Statement.{statement}
+use Rattle.walks.proofs.next.Tie as tie
 
 abbrev Inv-loop : tie.InvT-loop
 Inv-loop stride from number₀ coordinates₀ i₀ number coordinates i = (i ≤ 5) × Stepping stride from i number coordinates

@@ -1,7 +1,7 @@
--- `questions::walks::to_add` meets its contract. Assumes nothing.
+-- `walks::to_add` meets its contract. Assumes nothing.
 use borrow.Author.Needs.{needs}
-use Rattle.questions.proofs.walks.to_add.Statement.{statement}
-use Rattle.questions.proofs.walks.to_add.Tie as tie
+use Rattle.walks.proofs.to_add.Statement.{statement}
+use Rattle.walks.proofs.to_add.Tie as tie
 
 returns : tie.Need-returns
 returns c = search needs

@@ -1,11 +1,11 @@
--- `questions::walks::with_coordinates` meets its contract. Assumes nothing.
+-- `walks::with_coordinates` meets its contract. Assumes nothing.
 use borrow.Author.Needs.{needs}
 use mathlib.Core.Path.{refl}
 use Prim.Native.Nat.{_-_, _≤_}
 use native.Mathlib.Omega.{arith}
-use Rattle.questions.proofs.Filling.{Standing, standing-none, standing-next}
-use Rattle.questions.proofs.walks.with_coordinates.Statement.{statement}
-use Rattle.questions.proofs.walks.with_coordinates.Tie as tie
+use Rattle.walks.proofs.Filling.{Standing, standing-none, standing-next}
+use Rattle.walks.proofs.with_coordinates.Statement.{statement}
+use Rattle.walks.proofs.with_coordinates.Tie as tie
 
 abbrev Inv-loop : tie.InvT-loop
 Inv-loop processor plan d coordinates₀ rest₀ i₀ coordinates rest i = (i ≤ d) × Standing plan processor i rest coordinates

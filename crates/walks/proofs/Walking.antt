@@ -25,10 +25,10 @@ use Rattle.layout.specs.Shaped.{entryOf, Shaped}
 use Rattle.layout.proofs.Lists.{le-length, product-add-one}
 use Rattle.layout.proofs.Owners.{number-add-one}
 use Rattle.layout.proofs.Places.{moduli-length, modulus-at, entry-at}
-use Rattle.questions.specs.declared.walks.Coordinated.{Coordinated}
-use Rattle.questions.specs.declared.walks.Stride.{Stride}
-use Rattle.questions.specs.Walks.{Stands, strideOf, Strides, Walkable, Steps}
+use Rattle.walks.specs.declared.Coordinated.{Coordinated}
+use Rattle.walks.specs.declared.Stride.{Stride}
+use Rattle.walks.specs.Walks.{IsProcessor, strideOf, Strides, Walkable, Steps}
 use Rattle.questions.proofs.Neighbours.{turn-down, turned-inside}
 
 -- ---- places of 1 and 0
 
@@ -156,7 +156,7 @@ module _ (plan : Plan) (s : Shaped plan) where
           ∙ ap product moduli-front
           ∙ product-moduli
 
-      module _ (q : ℕ) (from : Coordinated) (stands : Stands plan q from) where
+      module _ (q : ℕ) (from : Coordinated) (stands : IsProcessor plan q from) where
         -- what `next` asks
         pub next-asked : Walkable stride from
         next-asked =
@@ -173,9 +173,9 @@ module _ (plan : Plan) (s : Shaped plan) where
                 rw (stands .coordinate-is i m, strides .modulus-is i b) (digit-below q i b)
 
         -- what it answers is the neighbour
-        pub next-stands : (to : Coordinated) → Steps stride from to
-            → Stands plan (nextOwner (layoutOf plan .moduli) (layoutOf plan .matrix) k up q) to
-        next-stands to steps = record { number-is = number; coordinate-is = λ i m. go i m (decLe (plan .d) i) }
+        pub next-is-processor : (to : Coordinated) → Steps stride from to
+            → IsProcessor plan (nextOwner (layoutOf plan .moduli) (layoutOf plan .matrix) k up q) to
+        next-is-processor to steps = record { number-is = number; coordinate-is = λ i m. go i m (decLe (plan .d) i) }
           where
             next : ℕ
             next = nextOwner (layoutOf plan .moduli) (layoutOf plan .matrix) k up q

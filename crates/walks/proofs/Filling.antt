@@ -17,11 +17,11 @@ use Rattle.layout.specs.Shaped.{entryOf, Shaped}
 use Rattle.layout.proofs.Lists.{le-length, product-front, factor-le}
 use Rattle.layout.proofs.Owners.{number-none, number-add-one, number-front-below}
 use Rattle.layout.proofs.Places.{moduli-length}
-use Rattle.questions.specs.declared.walks.Coordinated.{Coordinated}
-use Rattle.questions.specs.declared.walks.Stride.{Stride}
-use Rattle.questions.specs.Walks.{strideOf, Walkable}
+use Rattle.walks.specs.declared.Coordinated.{Coordinated}
+use Rattle.walks.specs.declared.Stride.{Stride}
+use Rattle.walks.specs.Walks.{strideOf, Walkable}
 use Rattle.questions.proofs.Bounds.{reduced-of-shaped}
 use Rattle.questions.proofs.Neighbours.{radixAt, radix-last, radix-suc}
 
 -- a place holds f that did so before or is the place i that f i is stored at
 pub set-at : (f : ℕ → ℕ) (at : List ℕ) (i x : ℕ) → i < length at → x ≡ f i → (j : ℕ) → (j ≢ i → getD at j 0 ≡ f j) → getD (set at i x) j 0 ≡ f j

@@ -8,11 +8,11 @@ use Rattle.multipartition.specs.MixedRadix.{numberFrom, digitsOf}
 use Rattle.layout.specs.declared.Plan.{Plan}
 use Rattle.layout.specs.Plans.{layoutOf}
 use Rattle.layout.specs.Shaped.{entryOf}
-use Rattle.questions.specs.declared.walks.Coordinated.{Coordinated}
-use Rattle.questions.specs.declared.walks.Stride.{Stride}
+use Rattle.walks.specs.declared.Coordinated.{Coordinated}
+use Rattle.walks.specs.declared.Stride.{Stride}
 
 -- a processor of a plan, with its coordinates: zero past d
-pub record Stands (plan : Plan) (processor : ℕ) (at : Coordinated) : Type 0 where
+pub record IsProcessor (plan : Plan) (processor : ℕ) (at : Coordinated) : Type 0 where
   pub number-is : at .number ≡ processor
   pub coordinate-is : (i : ℕ) → i < 5 → getD (at .coordinates) i 0 ≡ getD (digitsOf (layoutOf plan .moduli) processor) i 0
 
