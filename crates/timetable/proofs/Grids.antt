@@ -21,12 +21,12 @@ use Rattle.layout.specs.Shaped.{Shaped}
 use Rattle.layout.proofs.Places.{extents-length, cuts-length, extent-at, cut-at}
 use Rattle.layout.proofs.Shaped.{in-shape-of-shaped}
 use Rattle.timetable.specs.Faces.{facesHeld}
-use Rattle.timetable.specs.Timetable.{ownerIn, otherExtents}
-use Rattle.timetable.specs.Rows.{placesOf, weightOf, Weighed, lineIn, slabLine, Numbers, SlabAsked, flattened, oneEach}
+use Rattle.timetable.specs.Timetable.{ownerBy, otherExtents}
+use Rattle.timetable.specs.Rows.{placesOf, weightOf, Weighed, lineIn, slabLine, ExtentRange, SlabAsked, flattened, oneEach}
 use Rattle.timetable.proofs.Faces.{Cut, held-faces-add-up}
 use Rattle.timetable.proofs.Rows.{flat, product-set, places-inside}
 use Rattle.timetable.proofs.Steps.{faces-of-lines}
-use Rattle.timetable.proofs.Timetable.{owner-in-below}
+use Rattle.timetable.proofs.Timetable.{owner-by-below}
 
 -- ---- a list with 1 in one place
 
@@ -68,7 +68,7 @@ module _ (plan : Plan) (k : ℕ) (s : Shaped plan) (lk : k < plan .d) where
   extents-one-long = subst⁻¹ (λ (n : ℕ). plan .d ≤ n) (length-set (plan .extents) k 1) (s .extents-long)
 
   -- the other extents
-  pub numbers-flat : Numbers (plan .d) (set (plan .extents) k 1)
+  pub numbers-flat : ExtentRange (plan .d) (set (plan .extents) k 1)
   numbers-flat = record { few = s .d-high; long = extents-one-long; low = extent-one-low; high = extent-one-high }
 
   pub other-extents-flat : product (take (plan .d) (set (plan .extents) k 1)) ≡ otherExtents (layoutOf plan) (k + 1)
@@ -171,15 +171,15 @@ module _ (plan : Plan) (s : Shaped plan) where
 
   -- no processor has more than all faces
   plan-faces-fit : (k v q : ℕ) → k < plan .d → v < getD (plan .cuts) k 0 → q < plan .p
-      → facesHeld (layoutOf plan .extents) (layoutOf plan .cuts) (ownerIn (layoutOf plan)) k v q ≤ otherExtents (layoutOf plan) (k + 1)
+      → facesHeld (layoutOf plan .extents) (layoutOf plan .cuts) (ownerBy (layoutOf plan)) k v q ≤ otherExtents (layoutOf plan) (k + 1)
   unfolding layoutOf
   plan-faces-fit k v q lk lv lq =
-      subst (λ (n : ℕ). facesHeld (layoutOf plan .extents) (layoutOf plan .cuts) (ownerIn (layoutOf plan)) k v q ≤ n)
-      (held-faces-add-up (layoutOf plan .extents) (layoutOf plan .cuts) (ownerIn (layoutOf plan)) k (plan .p) v
-      (λ x w. owner-in-below (layoutOf plan) (in-shape-of-shaped plan s) x) same-lengths layout-cut (in-layout k lk)
+      subst (λ (n : ℕ). facesHeld (layoutOf plan .extents) (layoutOf plan .cuts) (ownerBy (layoutOf plan)) k v q ≤ n)
+      (held-faces-add-up (layoutOf plan .extents) (layoutOf plan .cuts) (ownerBy (layoutOf plan)) k (plan .p) v
+      (λ x w. owner-by-below (layoutOf plan) (in-shape-of-shaped plan s) x) same-lengths layout-cut (in-layout k lk)
       (subst⁻¹ (λ (n : ℕ). v < n) (cut-at plan k lk) lv)
       ∙ ap (λ (n : ℕ). product (without n (layoutOf plan .extents))) at)
-      (sum-term-le (plan .p) q (facesHeld (layoutOf plan .extents) (layoutOf plan .cuts) (ownerIn (layoutOf plan)) k v) lq)
+      (sum-term-le (plan .p) q (facesHeld (layoutOf plan .extents) (layoutOf plan .cuts) (ownerBy (layoutOf plan)) k v) lq)
     where
       at : k ≡ k + 1 - 1
       at = omega arith
@@ -212,7 +212,7 @@ module _ (plan : Plan) (s : Shaped plan) (k j c v q : ℕ) (lk : k < plan .d) (l
   grid-extents = extents-flat (flattened k plan) j once (flat-d plan k j lj) ∙ ap (λ (l : List ℕ). set l j 1) (extents-flat plan k s lk)
 
   -- the lines have q's faces
-  pub slab-lines : facesHeld (layoutOf plan .extents) (layoutOf plan .cuts) (ownerIn (layoutOf plan)) k v q
+  pub slab-lines : facesHeld (layoutOf plan .extents) (layoutOf plan .cuts) (ownerBy (layoutOf plan)) k v q
       ≡ sum (product (layoutOf (flattened c grid) .cuts)) (slabLine grid (flattened c grid) c k v table)
   unfolding layoutOf flattened
   slab-lines =

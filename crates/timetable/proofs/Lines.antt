@@ -20,11 +20,12 @@ use Rattle.layout.specs.Plans.{layoutOf}
 use Rattle.layout.specs.Shaped.{Shaped}
 use Rattle.layout.proofs.Lists.{product-front}
 use Rattle.layout.proofs.Places.{extents-length, cuts-length, extent-at, cut-at}
+use Rattle.questions.specs.Bounds.{Small}
 use Rattle.walks.specs.declared.Coordinated.{Coordinated}
 use Rattle.walks.specs.declared.Stride.{Stride}
 use Rattle.walks.specs.Walks.{Strides, Steps}
 use Rattle.timetable.specs.Faces.{thickness, thicknesses}
-use Rattle.timetable.specs.Rows.{placesOf, stepsOn, lineOf, slabLine, Placed, Within, Small, LineAsked, SlabAsked, oneEach}
+use Rattle.timetable.specs.Rows.{placesOf, stepsOn, lineOf, slabLine, HasPlaces, BelowCuts, LineAsked, SlabAsked, oneEach}
 use Rattle.timetable.proofs.Grids.{shaped-one-each, layout-cut, same-lengths, line-inside}
 use Rattle.timetable.proofs.Rows.{length-thicknesses, length-places}
 use Rattle.timetable.proofs.Walks.{Walk, walk-side, walk-more}
@@ -32,7 +33,7 @@ use Rattle.timetable.proofs.Tables.{thickness-le, thickness-of-one, vol
 
 -- ---- the volume of a tile
 
-module _ (grid : Plan) (s : Shaped grid) (at : List ℕ) (w : Within grid at) (fits : product (take (grid .d) (grid .extents)) ≤ 4294967295) where
+module _ (grid : Plan) (s : Shaped grid) (at : List ℕ) (w : BelowCuts grid at) (fits : product (take (grid .d) (grid .extents)) ≤ 4294967295) where
   abbrev pub sides : List ℕ
   sides = thicknesses (layoutOf grid .extents) (layoutOf grid .cuts) (take (grid .d) at)
 
@@ -137,8 +138,8 @@ module _ (grid : Plan) (s : Shaped grid) (c : ℕ) (lc : c < grid .d) (weights c
 
 -- ---- the first tile of a line, in five places
 
-module _ (flat : Plan) (s : Shaped flat) (r : ℕ) (at : List ℕ) (long : length at ≡ 5) (placed : Placed flat r at) where
-  pub first-within : Within flat at
+module _ (flat : Plan) (s : Shaped flat) (r : ℕ) (at : List ℕ) (long : length at ≡ 5) (placed : HasPlaces flat r at) where
+  pub first-within : BelowCuts flat at
   first-within i l =
       subst⁻¹ (λ (n : ℕ). n < getD (flat .cuts) i 0) (placed i l)
       (subst (λ (n : ℕ). getD (placesOf (layoutOf flat .cuts) r) i 0 < n) (cut-at flat i l)
@@ -152,12 +153,12 @@ module _ (flat : Plan) (s : Shaped flat) (r : ℕ) (at : List ℕ) (long : lengt
 
   module _ (k v : ℕ) where
     pub first-small : v < 4096 → k < flat .d → Small (flat .d) (set at k v)
-    first-small lv lk i l = go (ℕ-discrete i k)
+    first-small lv lk = record { few = s .d-high; below = λ i l. go i l (ℕ-discrete i k) }
       where
-        go : Dec (i ≡ k) → getD (set at k v) i 0 < 4096
-        go (yes z) =
+        go : (i : ℕ) → i < flat .d → Dec (i ≡ k) → getD (set at k v) i 0 < 4096
+        go i l (yes z) =
             subst⁻¹ (λ (n : ℕ). n < 4096) (ap (λ (n : ℕ). getD (set at k v) n 0) z ∙ getD-set-same at k v 0 (omega (arith, long, s .d-high))) lv
-        go (no f) = subst⁻¹ (λ (n : ℕ). n < 4096) (getD-set-other at k i v 0 f) (le-trans (first-within i l) (s .cut-high i l))
+        go i l (no f) = subst⁻¹ (λ (n : ℕ). n < 4096) (getD-set-other at k i v 0 f) (le-trans (first-within i l) (s .cut-high i l))
 
     first-raised : k < flat .d → take (flat .d) (set at k v) ≡ set (placesOf (layoutOf flat .cuts) r) k v
     first-raised lk = take-set-lt (flat .d) at k v lk ∙ ap (λ (x : List ℕ). set x k v) first-is
@@ -202,7 +203,7 @@ module _ (flat : Plan) (s : Shaped flat) (r : ℕ) (at : List ℕ) (long : lengt
           whole = ap (λ (n : ℕ). volume * lineOf grid c table (getD (grid .cuts) c 0) n) owner-is
 
 -- with one element in every slab a line is its tiles
-module _ (flat : Plan) (s : Shaped flat) (r : ℕ) (at : List ℕ) (long : length at ≡ 5) (placed : Placed flat r at) (k v : ℕ)
+module _ (flat : Plan) (s : Shaped flat) (r : ℕ) (at : List ℕ) (long : length at ≡ 5) (placed : HasPlaces flat r at) (k v : ℕ)
     (grid : Plan) (same-d : flat .d ≡ grid .d) (lk : k < grid .d) (c o : ℕ)
     (owns : o ≡ ownerAt (layoutOf grid .moduli) (layoutOf grid .matrix) (take (grid .d) (set at k v))) (table : List ℕ) where
   pub count-is : (line : ℕ) → line ≡ lineOf (oneEach grid) c table (getD (grid .cuts) c 0) o → line ≡ slabLine (oneEach grid) (oneEach flat) c k v table r

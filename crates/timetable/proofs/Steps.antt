@@ -22,10 +22,10 @@ use Rattle.multipartition.proofs.Neighbours.{neighbour-some, next-owner-below, 
 use Rattle.multipartition.proofs.Plans.{in-shape-iff, in-shape-moduli-positive, in-shape-neighbour-owns}
 use Rattle.multipartition.proofs.Tiles.{inside-length, inside-below}
 use Rattle.timetable.specs.Faces.{thickness, facesHeld}
-use Rattle.timetable.specs.Timetable.{ownerIn}
+use Rattle.timetable.specs.Timetable.{ownerBy}
 use Rattle.timetable.specs.Rows.{stepsOn, weightOf, lineOver, lineIn}
 use Rattle.timetable.proofs.Rows.{flat, faces-by-lines}
-use Rattle.timetable.proofs.Timetable.{owner-in-below}
+use Rattle.timetable.proofs.Timetable.{owner-by-below}
 
 -- ---- steps
 
@@ -79,7 +79,7 @@ module _ (plan : Layout) (shape : inShape plan ≡ true) where
   positive = in-shape-moduli-positive plan shape
 
   abbrev own : List ℕ → ℕ
-  own = ownerIn plan
+  own = ownerBy plan
 
   abbrev steps : ℕ → Bool → ℕ → ℕ → ℕ
   steps = stepsOn (plan .moduli) (plan .matrix)
@@ -124,9 +124,9 @@ module _ (plan : Layout) (shape : inShape plan ≡ true) where
         sum-cong (getD (plan .cuts) j 0) (λ t l.
         ap (λ (n : ℕ). thickness (getD (plan .extents) j 0) (getD (plan .cuts) j 0) t * n)
         (ap (λ (o : ℕ). same o q) (owner-steps j lj y inside z t l)
-        ∙ same-steps (plan .moduli) (plan .matrix) positive j t (own y) q (processor (own y) (owner-in-below plan shape y)) (processor q lq))
+        ∙ same-steps (plan .moduli) (plan .matrix) positive j t (own y) q (processor (own y) (owner-by-below plan shape y)) (processor q lq))
         ∙ mul-comm (thickness (getD (plan .extents) j 0) (getD (plan .cuts) j 0) t) (same (steps j false t q) (own y)))
-        ∙ sym (filled (own y) (le-trans (owner-in-below plan shape y) (facts .p-range .1)))
+        ∙ sym (filled (own y) (le-trans (owner-by-below plan shape y) (facts .p-range .1)))
 
     abbrev n : ℕ
     n = getD (flat k j (plan .extents)) c 0

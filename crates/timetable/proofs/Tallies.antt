@@ -12,7 +12,7 @@ use Rattle.layout.specs.Plans.{layoutOf}
 use Rattle.layout.specs.Shaped.{Shaped}
 use Rattle.layout.proofs.Places.{cut-at}
 use Rattle.timetable.specs.Faces.{facesHeld}
-use Rattle.timetable.specs.Timetable.{ownerIn, otherExtents}
+use Rattle.timetable.specs.Timetable.{ownerBy, otherExtents}
 use Rattle.timetable.specs.Rows.{Weighed, slabLine, SlabAsked, flattened, oneEach}
 use Rattle.timetable.proofs.Grids.{shaped-flat, shaped-one-each, one-each-fits, slab-lines, slab-asked}
 use Rattle.timetable.proofs.Tables.{faces-are-tiles}
@@ -53,7 +53,7 @@ module _ (plan : Plan) (s : Shaped plan) (k v q : ℕ) (lk : k < plan .d) (lv : 
         (slab-asked plan s k j c v q lk lj in-plan j-apart c-apart lv lq table w fits))
 
     pub tally-faces : sum (product (layoutOf flat .cuts)) (slabLine grid flat c k v table)
-        ≡ facesHeld (layoutOf plan .extents) (layoutOf plan .cuts) (ownerIn (layoutOf plan)) k v q
+        ≡ facesHeld (layoutOf plan .extents) (layoutOf plan .cuts) (ownerBy (layoutOf plan)) k v q
     tally-faces =
         ap (λ (g : Plan). sum (product (layoutOf flat .cuts)) (slabLine g flat c k v table)) grid-is
         ∙ ap (λ (f : Plan). sum (product (layoutOf f .cuts)) (slabLine (flattened j (flattened k plan)) f c k v table)) flat-is
@@ -72,10 +72,10 @@ module _ (plan : Plan) (s : Shaped plan) (k v q : ℕ) (lk : k < plan .d) (lv : 
       (ap oneEach e-flat ∙ sym (one-each-flat grid c)) table w (one-each-fits plan s k lk)
 
   pub tally-tiles : sum (product (layoutOf flat .cuts)) (slabLine (oneEach grid) (oneEach flat) c k v table)
-      ≡ held (layoutOf plan .cuts) (ownerIn (layoutOf plan)) k v q
+      ≡ held (layoutOf plan .cuts) (ownerBy (layoutOf plan)) k v q
   unfolding oneEach layoutOf
   tally-tiles =
       tally-faces (oneEach plan) (shaped-one-each plan s) k v q lk lv lq j lj j-apart (oneEach once) (oneEach grid)
       (ap oneEach e-once ∙ sym (one-each-flat plan k)) (ap oneEach e-grid ∙ sym (one-each-flat once j)) c lc c-apart (oneEach flat)
       (ap oneEach e-flat ∙ sym (one-each-flat grid c)) table w
-      ∙ faces-are-tiles (layoutOf plan .cuts) (ownerIn (layoutOf plan)) k v q (subst⁻¹ (λ (n : ℕ). v < n) (cut-at plan k lk) lv)
+      ∙ faces-are-tiles (layoutOf plan .cuts) (ownerBy (layoutOf plan)) k v q (subst⁻¹ (λ (n : ℕ). v < n) (cut-at plan k lk) lv)

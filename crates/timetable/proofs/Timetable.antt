@@ -35,7 +35,7 @@ use Rattle.layout.specs.Sized.{Sized}
 use Rattle.layout.proofs.Places.{extents-length, cuts-length}
 use Rattle.layout.proofs.Plans.{layout-of-plan, layout-with-sized}
 use Rattle.layout.proofs.Shaped.{shaped}
-use Rattle.timetable.specs.Timetable.{ownerIn, neighbourIn, otherExtents, slabVisited, facesAt, Message, messageWith, lengthOf, sendsAfter, expectsBefore, Visit, visitOf, timetableAnswer, Sends, Expects, sentIn}
+use Rattle.timetable.specs.Timetable.{ownerBy, neighbourBy, otherExtents, slabVisited, facesAt, Message, messageWith, lengthOf, sendsAfter, expectsBefore, Visit, visitOf, timetableAnswer, Sends, Expects, sentIn}
 use Rattle.timetable.proofs.Faces.{Cut, held-faces-move, held-faces-add-up}
 use Rattle.timetable.proofs.Answers.{Asked, timetable-answered}
 
@@ -89,9 +89,9 @@ none-iff a b o r n h = (λ e. go (ℕ-discrete a b) e, λ e. rw (eq-eqb a b e))
 
 -- ---- any plan in shape
 
-pub owner-in-below : (plan : Layout) → inShape plan ≡ true → (x : List ℕ) → ownerIn plan x < plan .p
-owner-in-below plan shape x =
-    subst (λ (n : ℕ). ownerIn plan x < n) (in-shape-iff plan .0 shape .moduli-product)
+pub owner-by-below : (plan : Layout) → inShape plan ≡ true → (x : List ℕ) → ownerBy plan x < plan .p
+owner-by-below plan shape x =
+    subst (λ (n : ℕ). ownerBy plan x < n) (in-shape-iff plan .0 shape .moduli-product)
     (owner-below-product (plan .moduli) (plan .matrix) x (in-shape-moduli-positive plan shape))
 
 module _ (plan : Layout) (shape : inShape plan ≡ true) (k : ℕ) where
@@ -99,8 +99,8 @@ module _ (plan : Layout) (shape : inShape plan ≡ true) (k : ℕ) where
   facts = in-shape-iff plan .0 shape
 
   -- along a cut dimension the neighbour is a processor
-  neighbour-in-below : (up : Bool) (q r : ℕ) → cutOf plan k ≢ 1 → neighbourIn plan k up q ≡ some r → r < plan .p
-  neighbour-in-below up q r cut e =
+  neighbour-by-below : (up : Bool) (q r : ℕ) → cutOf plan k ≢ 1 → neighbourBy plan k up q ≡ some r → r < plan .p
+  neighbour-by-below up q r cut e =
       subst (λ (n : ℕ). n < plan .p) named
       (subst (λ (n : ℕ). nextOwner (plan .moduli) (plan .matrix) (k - 1) up q < n) (facts .moduli-product)
       (next-owner-below (plan .moduli) (plan .matrix) (in-shape-moduli-positive plan shape) (k - 1) up q))
@@ -111,11 +111,11 @@ module _ (plan : Layout) (shape : inShape plan ≡ true) (k : ℕ) where
           (sym (neighbour-some (plan .cuts) (plan .moduli) (plan .matrix) (k - 1) up q cut) ∙ e)
 
   -- What q holds in the slab of a step, its neighbour in the sweep's direction holds in the slab of the next.
-  faces-move : (up : Bool) (s q r : ℕ) → suc s < cutOf plan k → q < plan .p → neighbourIn plan k up q ≡ some r
+  faces-move : (up : Bool) (s q r : ℕ) → suc s < cutOf plan k → q < plan .p → neighbourBy plan k up q ≡ some r
       → facesAt plan k up s q ≡ facesAt plan k up (suc s) r
   unfolding facesAt
   faces-move up s q r l lq e =
-      held-faces-move (plan .extents) (plan .cuts) (ownerIn plan) (k - 1) v w q r
+      held-faces-move (plan .extents) (plan .cuts) (ownerBy plan) (k - 1) v w q r
       (slab-visited-below (cutOf plan k) up s (omega arith)) (slab-visited-below (cutOf plan k) up (suc s) l)
       (λ x inside at. (λ own. there x inside at own, λ own. back x inside at own))
     where
@@ -125,20 +125,20 @@ module _ (plan : Layout) (shape : inShape plan ≡ true) (k : ℕ) where
       w : ℕ
       w = slabVisited (cutOf plan k) up (suc s)
 
-      onward : (x : List ℕ) → Inside (plan .cuts) x → getD x (k - 1) 0 ≡ v → neighbourIn plan k up (ownerIn plan x) ≡ some (ownerIn plan (set x (k - 1) w))
+      onward : (x : List ℕ) → Inside (plan .cuts) x → getD x (k - 1) 0 ≡ v → neighbourBy plan k up (ownerBy plan x) ≡ some (ownerBy plan (set x (k - 1) w))
       onward x inside at =
           in-shape-neighbour-owns plan shape (k - 1) up x (set x (k - 1) w) (within (plan .cuts) (k - 1) (suc s) l) inside
           (next-slab (plan .cuts) (k - 1) up s x l at)
 
-      there : (x : List ℕ) → Inside (plan .cuts) x → getD x (k - 1) 0 ≡ v → ownerIn plan x ≡ q → ownerIn plan (set x (k - 1) w) ≡ r
+      there : (x : List ℕ) → Inside (plan .cuts) x → getD x (k - 1) 0 ≡ v → ownerBy plan x ≡ q → ownerBy plan (set x (k - 1) w) ≡ r
       there x inside at own =
-          Option·some-injective (ownerIn plan (set x (k - 1) w)) r (sym (onward x inside at) ∙ ap (neighbourIn plan k up) own ∙ e)
+          Option·some-injective (ownerBy plan (set x (k - 1) w)) r (sym (onward x inside at) ∙ ap (neighbourBy plan k up) own ∙ e)
 
-      back : (x : List ℕ) → Inside (plan .cuts) x → getD x (k - 1) 0 ≡ v → ownerIn plan (set x (k - 1) w) ≡ r → ownerIn plan x ≡ q
+      back : (x : List ℕ) → Inside (plan .cuts) x → getD x (k - 1) 0 ≡ v → ownerBy plan (set x (k - 1) w) ≡ r → ownerBy plan x ≡ q
       back x inside at own =
-          Option·some-injective (ownerIn plan x) q
-          (sym (in-shape-neighbour-returns plan shape (k - 1) up (ownerIn plan x) (ownerIn plan (set x (k - 1) w)) (owner-in-below plan shape x) (onward x inside at))
-          ∙ ap (neighbourIn plan k (not up)) own
+          Option·some-injective (ownerBy plan x) q
+          (sym (in-shape-neighbour-returns plan shape (k - 1) up (ownerBy plan x) (ownerBy plan (set x (k - 1) w)) (owner-by-below plan shape x) (onward x inside at))
+          ∙ ap (neighbourBy plan k (not up)) own
           ∙ in-shape-neighbour-returns plan shape (k - 1) up q r lq e)
 
   -- In every slab that is visited the faces of all processors add up to the product of the other extents.
@@ -146,8 +146,8 @@ module _ (plan : Layout) (shape : inShape plan ≡ true) (k : ℕ) where
       → sum (plan .p) (facesAt plan k up s) ≡ otherExtents plan k
   unfolding facesAt
   faces-add-up extents-many cuts-many up s l =
-      held-faces-add-up (plan .extents) (plan .cuts) (ownerIn plan) (k - 1) (plan .p) (slabVisited (cutOf plan k) up s)
-      (λ x inside. owner-in-below plan shape x) (extents-many ∙ sym cuts-many) cut (within (plan .cuts) (k - 1) s l)
+      held-faces-add-up (plan .extents) (plan .cuts) (ownerBy plan) (k - 1) (plan .p) (slabVisited (cutOf plan k) up s)
+      (λ x inside. owner-by-below plan shape x) (extents-many ∙ sym cuts-many) cut (within (plan .cuts) (k - 1) s l)
       (slab-visited-below (cutOf plan k) up s l)
     where
       cut : Cut (plan .extents) (plan .cuts)
@@ -179,12 +179,12 @@ sent-iff-expected plan k up s q r n = (there, back)
         let answer = timetable-answered plan k up s q visit .0 e in
         let asked = answer .0 in
         let sent : sendsAfter plan k up s q ≡ some (r, n) = ap (λ (v : Visit). v .sends) (answer .1) ∙ sends in
-        let parts = message-unless (eqb (suc s) (cutOf plan k)) (messageWith (neighbourIn plan k up q) (facesAt plan k up s q)) r n sent in
-        let message = message-some (neighbourIn plan k up q) (facesAt plan k up s q) r n (parts .1) in
+        let parts = message-unless (eqb (suc s) (cutOf plan k)) (messageWith (neighbourBy plan k up q) (facesAt plan k up s q)) r n sent in
+        let message = message-some (neighbourBy plan k up q) (facesAt plan k up s q) r n (parts .1) in
         let more : suc s < cutOf plan k = omega (arith, eqb-false (suc s) (cutOf plan k) (parts .0), asked .step-below) in
         let cut : cutOf plan k ≢ 1 = λ z. absurd (omega arith) in
-        let below : r < plan .p = neighbour-in-below plan (asked .shape) k up q r cut (message .0) in
-        let returns : neighbourIn plan k (not up) r ≡ some q = in-shape-neighbour-returns plan (asked .shape) (k - 1) up q r (asked .processor-below) (message .0) in
+        let below : r < plan .p = neighbour-by-below plan (asked .shape) k up q r cut (message .0) in
+        let returns : neighbourBy plan k (not up) r ≡ some q = in-shape-neighbour-returns plan (asked .shape) (k - 1) up q r (asked .processor-below) (message .0) in
         let length-is : facesAt plan k up (suc s) r ≡ n = sym (faces-move plan (asked .shape) k up s q r more (asked .processor-below) (message .0)) ∙ message .1 in (
           visitOf plan k up (suc s) r,
           timetable-answered plan k up (suc s) r (visitOf plan k up (suc s) r) .1 (asked-of plan k s q (suc s) r asked more below, refl),
@@ -196,12 +196,12 @@ sent-iff-expected plan k up s q r n = (there, back)
         let answer = timetable-answered plan k up (suc s) r visit .0 e in
         let asked = answer .0 in
         let expected : expectsBefore plan k up (suc s) r ≡ some (q, n) = ap (λ (v : Visit). v .expects) (answer .1) ∙ expects in
-        let parts = message-unless (eqb (suc s) 0) (messageWith (neighbourIn plan k (not up) r) (facesAt plan k up (suc s) r)) q n expected in
-        let message = message-some (neighbourIn plan k (not up) r) (facesAt plan k up (suc s) r) q n (parts .1) in
+        let parts = message-unless (eqb (suc s) 0) (messageWith (neighbourBy plan k (not up) r) (facesAt plan k up (suc s) r)) q n expected in
+        let message = message-some (neighbourBy plan k (not up) r) (facesAt plan k up (suc s) r) q n (parts .1) in
         let cut : cutOf plan k ≢ 1 = λ z. absurd (omega (arith, asked .step-below)) in
-        let below : q < plan .p = neighbour-in-below plan (asked .shape) k (not up) r q cut (message .0) in
-        let forth : neighbourIn plan k up q ≡ some r =
-        subst (λ (u : Bool). neighbourIn plan k u q ≡ some r) (not-not up)
+        let below : q < plan .p = neighbour-by-below plan (asked .shape) k (not up) r q cut (message .0) in
+        let forth : neighbourBy plan k up q ≡ some r =
+        subst (λ (u : Bool). neighbourBy plan k u q ≡ some r) (not-not up)
         (in-shape-neighbour-returns plan (asked .shape) (k - 1) (not up) r q (asked .processor-below) (message .0)) in
         let length-is : facesAt plan k up s q ≡ n = faces-move plan (asked .shape) k up s q r (asked .step-below) below forth ∙ message .1 in (
           visitOf plan k up s q,
@@ -217,7 +217,7 @@ module _ (plan : Layout) (k : ℕ) (up : Bool) (s q : ℕ) (visit : Visit) (e : 
   asked = answer .0
 
   -- with another slab the dimension is cut, and every processor has a neighbour
-  neighbour-there : (dir : Bool) (r : ℕ) → cutOf plan k ≢ 1 → neighbourIn plan k dir r ≡ some (nextOwner (plan .moduli) (plan .matrix) (k - 1) dir r)
+  neighbour-there : (dir : Bool) (r : ℕ) → cutOf plan k ≢ 1 → neighbourBy plan k dir r ≡ some (nextOwner (plan .moduli) (plan .matrix) (k - 1) dir r)
   neighbour-there dir r cut = neighbour-some (plan .cuts) (plan .moduli) (plan .matrix) (k - 1) dir r cut
 
   -- "After the last step nothing is sent", and in no other case
@@ -225,7 +225,7 @@ module _ (plan : Layout) (k : ℕ) (up : Bool) (s q : ℕ) (visit : Visit) (e : 
   unfolding visitOf sendsAfter
   sends-none-iff =
       subst (λ (v : Visit). (v .sends ≡ none) ↔ (suc s ≡ cutOf plan k)) (answer .1)
-      (none-iff (suc s) (cutOf plan k) (neighbourIn plan k up q) (nextOwner (plan .moduli) (plan .matrix) (k - 1) up q) (facesAt plan k up s q)
+      (none-iff (suc s) (cutOf plan k) (neighbourBy plan k up q) (nextOwner (plan .moduli) (plan .matrix) (k - 1) up q) (facesAt plan k up s q)
       (λ more. neighbour-there up q (λ one. more (omega (arith, asked .step-below)))))
 
   -- "before step 0 nothing is expected", and in no other case
@@ -233,7 +233,7 @@ module _ (plan : Layout) (k : ℕ) (up : Bool) (s q : ℕ) (visit : Visit) (e : 
   unfolding visitOf expectsBefore
   expects-none-iff =
       subst (λ (v : Visit). (v .expects ≡ none) ↔ (s ≡ 0)) (answer .1)
-      (none-iff s 0 (neighbourIn plan k (not up) q) (nextOwner (plan .moduli) (plan .matrix) (k - 1) (not up) q) (facesAt plan k up s q)
+      (none-iff s 0 (neighbourBy plan k (not up) q) (nextOwner (plan .moduli) (plan .matrix) (k - 1) (not up) q) (facesAt plan k up s q)
       (λ more. neighbour-there (not up) q (λ one. more (omega (arith, asked .step-below)))))
 
   -- unless it is the last step, every processor sends its faces
@@ -248,9 +248,9 @@ module _ (plan : Layout) (k : ℕ) (up : Bool) (s q : ℕ) (visit : Visit) (e : 
   unfolding visitOf
   slab-is = sym (ap (λ (v : Visit). v .slab) (answer .1))
 
-  pub tiles-are-held : visit .tiles ≡ held (plan .cuts) (ownerIn plan) (k - 1) (visit .slab) q
+  pub tiles-are-held : visit .tiles ≡ held (plan .cuts) (ownerBy plan) (k - 1) (visit .slab) q
   unfolding visitOf
-  tiles-are-held = subst (λ (v : Visit). v .tiles ≡ held (plan .cuts) (ownerIn plan) (k - 1) (v .slab) q) (answer .1) refl
+  tiles-are-held = subst (λ (v : Visit). v .tiles ≡ held (plan .cuts) (ownerBy plan) (k - 1) (v .slab) q) (answer .1) refl
 
 -- ---- plans by value: their lists have d numbers each
 
@@ -284,8 +284,8 @@ module _ (plan : Plan) (k : ℕ) (up : Bool) (s q : ℕ) (visit : Visit) (e : ti
       let short : faces ≤ 4294967295 = le-trans faces-fit (asked-here .lengths-fit) in
       subst (λ (v : Visit). (lengthOf (v .sends) ≤ 4294967295) × (lengthOf (v .expects) ≤ 4294967295))
       (timetable-answered (layoutOf plan) k up s q visit .0 e .1) (
-        le-trans (length-unless (eqb (suc s) (cutOf (layoutOf plan) k)) (neighbourIn (layoutOf plan) k up q) faces) short,
-        le-trans (length-unless (eqb s 0) (neighbourIn (layoutOf plan) k (not up) q) faces) short,
+        le-trans (length-unless (eqb (suc s) (cutOf (layoutOf plan) k)) (neighbourBy (layoutOf plan) k up q) faces) short,
+        le-trans (length-unless (eqb s 0) (neighbourBy (layoutOf plan) k (not up) q) faces) short,
       )
 
 -- ---- the planner's plans
@@ -296,7 +296,7 @@ layout-tiles : (job : Job) (plan : Layout) → planAnswer job ≡ answered plan 
 unfolding ownerOf
 layout-tiles job plan made k up s q visit e = (
   tiles-are-held plan k up s q visit e
-      ∙ ap (λ (v : ℕ). held (plan .cuts) (ownerIn plan) (k - 1) v q) (slab-is plan k up s q visit e)
+      ∙ ap (λ (v : ℕ). held (plan .cuts) (ownerBy plan) (k - 1) v q) (slab-is plan k up s q visit e)
       ∙ ap (λ (own : List ℕ → ℕ). held (plan .cuts) own (k - 1) (slabVisited (cutOf plan k) up s) q) owner-is
       ∙ even-owners (job .p) (plan .cuts) (planned .passed .range .p-low) even (k - 1) (slabVisited (cutOf plan k) up s) q in-cuts
       (slab-visited-below (cutOf plan k) up s (here .step-below)) (subst (λ (n : ℕ). q < n) p-is (here .processor-below))
@@ -319,7 +319,7 @@ layout-tiles job plan made k up s q visit e = (
     in-cuts : k - 1 < length (plan .cuts)
     in-cuts = within (plan .cuts) (k - 1) s (here .step-below)
 
-    owner-is : ownerIn plan ≡ ownerOf (job .p) (plan .cuts)
+    owner-is : ownerBy plan ≡ ownerOf (job .p) (plan .cuts)
     owner-is = ap (λ (l : Layout). ownerAt (l .moduli) (l .matrix)) (planned .plan-is)
 
 -- "every processor owns exactly tiles / (bk · p) tiles of each slab": so many it works on in every step, and the share is not rounded. The planner's

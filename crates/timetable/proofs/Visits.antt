@@ -22,26 +22,26 @@ use Rattle.layout.proofs.Places as places
 use Rattle.layout.proofs.Shaped.{in-shape-of-shaped}
 use Rattle.tiles.proofs.Numbering.{is-dimension, cut-at}
 use Rattle.timetable.specs.Faces.{facesHeld}
-use Rattle.timetable.specs.Timetable.{ownerIn, neighbourIn, otherExtents, slabVisited, facesAt, Message, messageWith, sendsAfter, expectsBefore, Visit, visitOf, timetableAnswer}
+use Rattle.timetable.specs.Timetable.{ownerBy, neighbourBy, otherExtents, slabVisited, facesAt, Message, messageWith, sendsAfter, expectsBefore, Visit, visitOf, timetableAnswer}
 
 module _ (plan : Plan) (k : ℕ) (lk : k < plan .d) where
   back : k + 1 - 1 ≡ k
   back = omega arith
 
   neighbour-is : (up : Bool) (q : ℕ) → getD (plan .cuts) k 0 ≢ 1
-      → neighbourIn (layoutOf plan) (k + 1) up q ≡ some (nextOwner (layoutOf plan .moduli) (layoutOf plan .matrix) k up q)
+      → neighbourBy (layoutOf plan) (k + 1) up q ≡ some (nextOwner (layoutOf plan .moduli) (layoutOf plan .matrix) k up q)
   neighbour-is up q cut =
       ap (λ (n : ℕ). neighbourAt (layoutOf plan .cuts) (layoutOf plan .moduli) (layoutOf plan .matrix) n up q) back
       ∙ neighbour-some (layoutOf plan .cuts) (layoutOf plan .moduli) (layoutOf plan .matrix) k up q (λ z. cut (sym (places.cut-at plan k lk) ∙ z))
 
   module _ (step q length : ℕ) (below : step < getD (plan .cuts) k 0) where
     pub sends-last : (up : Bool) → step + 1 ≡ getD (plan .cuts) k 0
-        → none ≡ cond (eqb (suc step) (cutOf (layoutOf plan) (k + 1))) none (messageWith (neighbourIn (layoutOf plan) (k + 1) up q) length)
+        → none ≡ cond (eqb (suc step) (cutOf (layoutOf plan) (k + 1))) none (messageWith (neighbourBy (layoutOf plan) (k + 1) up q) length)
     sends-last up e = rw (eq-eqb (suc step) (cutOf (layoutOf plan) (k + 1)) (sym (add-one step) ∙ e ∙ sym (cut-at plan k lk)))
 
     pub sends-on : (up : Bool) → step + 1 ≢ getD (plan .cuts) k 0
         → some (nextOwner (layoutOf plan .moduli) (layoutOf plan .matrix) k up q, length)
-        ≡ cond (eqb (suc step) (cutOf (layoutOf plan) (k + 1))) none (messageWith (neighbourIn (layoutOf plan) (k + 1) up q) length)
+        ≡ cond (eqb (suc step) (cutOf (layoutOf plan) (k + 1))) none (messageWith (neighbourBy (layoutOf plan) (k + 1) up q) length)
     sends-on up n =
         rw (
           ne-eqb (suc step) (cutOf (layoutOf plan) (k + 1)) (λ e. n (add-one step ∙ e ∙ cut-at plan k lk)),
@@ -50,32 +50,32 @@ module _ (plan : Plan) (k : ℕ) (lk : k < plan .d) where
 
     pub expects-on : (up : Bool) → step ≢ 0
         → some (nextOwner (layoutOf plan .moduli) (layoutOf plan .matrix) k up q, length)
-        ≡ cond (eqb step 0) none (messageWith (neighbourIn (layoutOf plan) (k + 1) up q) length)
+        ≡ cond (eqb step 0) none (messageWith (neighbourBy (layoutOf plan) (k + 1) up q) length)
     expects-on up n = rw (ne-eqb step 0 n, neighbour-is up q (λ one. n (omega arith)))
 
   -- the parts of a visit
   pub visit-is : (up : Bool) (step q slab tiles length : ℕ) (sent expected : Message) → slab ≡ slabVisited (getD (plan .cuts) k 0) up step
-      → tiles ≡ held (layoutOf plan .cuts) (ownerIn (layoutOf plan)) k slab q
-      → length ≡ facesHeld (layoutOf plan .extents) (layoutOf plan .cuts) (ownerIn (layoutOf plan)) k slab q
-      → sent ≡ cond (eqb (suc step) (cutOf (layoutOf plan) (k + 1))) none (messageWith (neighbourIn (layoutOf plan) (k + 1) up q) length)
-      → expected ≡ cond (eqb step 0) none (messageWith (neighbourIn (layoutOf plan) (k + 1) (not up) q) length)
+      → tiles ≡ held (layoutOf plan .cuts) (ownerBy (layoutOf plan)) k slab q
+      → length ≡ facesHeld (layoutOf plan .extents) (layoutOf plan .cuts) (ownerBy (layoutOf plan)) k slab q
+      → sent ≡ cond (eqb (suc step) (cutOf (layoutOf plan) (k + 1))) none (messageWith (neighbourBy (layoutOf plan) (k + 1) up q) length)
+      → expected ≡ cond (eqb step 0) none (messageWith (neighbourBy (layoutOf plan) (k + 1) (not up) q) length)
       → _≡_ {A = Visit} (record { slab = slab; tiles = tiles; sends = sent; expects = expected }) (visitOf (layoutOf plan) (k + 1) up step q)
   unfolding visitOf sendsAfter expectsBefore facesAt
   visit-is up step q slab tiles length sent expected es et el e-sent e-expected =
       let slab-is : slab ≡ slabVisited (cutOf (layoutOf plan) (k + 1)) up step = es ∙ ap (λ (b : ℕ). slabVisited b up step) (sym (cut-at plan k lk)) in
-      let tiles-is : tiles ≡ held (layoutOf plan .cuts) (ownerIn (layoutOf plan)) (k + 1 - 1) (slabVisited (cutOf (layoutOf plan) (k + 1)) up step) q
-      = et ∙ ap₂ (λ (n v : ℕ). held (layoutOf plan .cuts) (ownerIn (layoutOf plan)) n v q) (sym back) slab-is in
-      let length-is : length ≡ facesHeld (layoutOf plan .extents) (layoutOf plan .cuts) (ownerIn (layoutOf plan)) (k + 1 - 1) (slabVisited (cutOf (layoutOf plan) (k + 1)) up step) q
-      = el ∙ ap₂ (λ (n v : ℕ). facesHeld (layoutOf plan .extents) (layoutOf plan .cuts) (ownerIn (layoutOf plan)) n v q) (sym back) slab-is in
+      let tiles-is : tiles ≡ held (layoutOf plan .cuts) (ownerBy (layoutOf plan)) (k + 1 - 1) (slabVisited (cutOf (layoutOf plan) (k + 1)) up step) q
+      = et ∙ ap₂ (λ (n v : ℕ). held (layoutOf plan .cuts) (ownerBy (layoutOf plan)) n v q) (sym back) slab-is in
+      let length-is : length ≡ facesHeld (layoutOf plan .extents) (layoutOf plan .cuts) (ownerBy (layoutOf plan)) (k + 1 - 1) (slabVisited (cutOf (layoutOf plan) (k + 1)) up step) q
+      = el ∙ ap₂ (λ (n v : ℕ). facesHeld (layoutOf plan .extents) (layoutOf plan .cuts) (ownerBy (layoutOf plan)) n v q) (sym back) slab-is in
       ap₂ (λ (v n : ℕ). record { slab = v; tiles = n; sends = sent; expects = expected }) slab-is tiles-is
       ∙ ap₂ (λ (m o : Message). record {
         slab = slabVisited (cutOf (layoutOf plan) (k + 1)) up step;
-        tiles = held (layoutOf plan .cuts) (ownerIn (layoutOf plan)) (k + 1 - 1) (slabVisited (cutOf (layoutOf plan) (k + 1)) up step) q;
+        tiles = held (layoutOf plan .cuts) (ownerBy (layoutOf plan)) (k + 1 - 1) (slabVisited (cutOf (layoutOf plan) (k + 1)) up step) q;
         sends = m;
         expects = o;
       })
-      (e-sent ∙ ap (λ (n : ℕ). cond (eqb (suc step) (cutOf (layoutOf plan) (k + 1))) none (messageWith (neighbourIn (layoutOf plan) (k + 1) up q) n)) length-is)
-      (e-expected ∙ ap (λ (n : ℕ). cond (eqb step 0) none (messageWith (neighbourIn (layoutOf plan) (k + 1) (not up) q) n)) length-is)
+      (e-sent ∙ ap (λ (n : ℕ). cond (eqb (suc step) (cutOf (layoutOf plan) (k + 1))) none (messageWith (neighbourBy (layoutOf plan) (k + 1) up q) n)) length-is)
+      (e-expected ∙ ap (λ (n : ℕ). cond (eqb step 0) none (messageWith (neighbourBy (layoutOf plan) (k + 1) (not up) q) n)) length-is)
 
 -- ---- the checks, in their order
 

@@ -86,24 +86,20 @@ slabLine grid flat c k v table =
 
 -- ---- what the functions ask
 
--- d numbers from 1 to 1,000,000
-pub record Numbers (d : ℕ) (numbers : List ℕ) : Type 0 where
+-- d numbers in the range of extents
+pub record ExtentRange (d : ℕ) (numbers : List ℕ) : Type 0 where
   pub few : d ≤ 5
   pub long : d ≤ length numbers
   pub low : (i : ℕ) → i < d → 1 ≤ getD numbers i 0
   pub high : (i : ℕ) → i < d → getD numbers i 0 ≤ 1000000
 
--- the first d numbers below 4,096
-abbrev pub Small : ℕ → List ℕ → Type 0
-Small d at = (i : ℕ) → i < d → getD at i 0 < 4096
-
 -- the first d places are those of position r
-abbrev pub Placed : Plan → ℕ → List ℕ → Type 0
-Placed grid r at = (i : ℕ) → i < grid .d → getD at i 0 ≡ getD (placesOf (layoutOf grid .cuts) r) i 0
+abbrev pub HasPlaces : Plan → ℕ → List ℕ → Type 0
+HasPlaces grid r at = (i : ℕ) → i < grid .d → getD at i 0 ≡ getD (placesOf (layoutOf grid .cuts) r) i 0
 
 -- each place below its cut
-abbrev pub Within : Plan → List ℕ → Type 0
-Within grid at = (i : ℕ) → i < grid .d → getD at i 0 < getD (grid .cuts) i 0
+abbrev pub BelowCuts : Plan → List ℕ → Type 0
+BelowCuts grid at = (i : ℕ) → i < grid .d → getD at i 0 < getD (grid .cuts) i 0
 
 -- a line: its dimension, the owner of its first tile, and a table whose sum along it fits 32 bits
 pub record LineAsked (grid : Plan) (c : ℕ) (table : List ℕ) (o : ℕ) : Type 0 where

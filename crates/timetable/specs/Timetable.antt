@@ -15,12 +15,12 @@ use Rattle.multipartition.specs.Rivals.{held}
 use Rattle.timetable.specs.Faces.{facesHeld}
 
 -- the owner of a position, as the owner question answers
-abbrev pub ownerIn : Layout → List ℕ → ℕ
-ownerIn plan = ownerAt (plan .moduli) (plan .matrix)
+abbrev pub ownerBy : Layout → List ℕ → ℕ
+ownerBy plan = ownerAt (plan .moduli) (plan .matrix)
 
 -- the neighbour of processor q along dimension k, as the neighbour question answers
-abbrev pub neighbourIn : Layout → ℕ → Bool → ℕ → Option ℕ
-neighbourIn plan k = neighbourAt (plan .cuts) (plan .moduli) (plan .matrix) (k - 1)
+abbrev pub neighbourBy : Layout → ℕ → Bool → ℕ → Option ℕ
+neighbourBy plan k = neighbourAt (plan .cuts) (plan .moduli) (plan .matrix) (k - 1)
 
 -- "the product of the other extents"
 abbrev pub otherExtents : Layout → ℕ → ℕ
@@ -33,7 +33,7 @@ slabVisited b false s = b - 1 - s
 
 -- the sum of processor q's own faces in the slab that step s visits
 unfoldable pub facesAt : Layout → ℕ → Bool → ℕ → ℕ → ℕ
-facesAt plan k up s q = facesHeld (plan .extents) (plan .cuts) (ownerIn plan) (k - 1) (slabVisited (cutOf plan k) up s) q
+facesAt plan k up s q = facesHeld (plan .extents) (plan .cuts) (ownerBy plan) (k - 1) (slabVisited (cutOf plan k) up s) q
 
 -- a processor with the length in elements of the message to it or from it; none is "no processor, length 0"
 abbrev pub Message : Type 0
@@ -50,12 +50,12 @@ lengthOf (some (processor, length)) = length
 -- "A processor sends to its neighbour along that dimension in the sweep's direction"; "a message is the sum of the sender's faces in that slab":
 -- q is the sender, and the slab the one that it has visited. "After the last step nothing is sent".
 unfoldable pub sendsAfter : Layout → ℕ → Bool → ℕ → ℕ → Message
-sendsAfter plan k up s q = cond (eqb (suc s) (cutOf plan k)) none (messageWith (neighbourIn plan k up q) (facesAt plan k up s q))
+sendsAfter plan k up s q = cond (eqb (suc s) (cutOf plan k)) none (messageWith (neighbourBy plan k up q) (facesAt plan k up s q))
 
 -- It "receives from its neighbour in the opposite one"; "The length expected is the sum of the receiver's own faces in the slab it is about to
 -- visit": q is the receiver, and the slab the one of this step. "before step 0 nothing is expected".
 unfoldable pub expectsBefore : Layout → ℕ → Bool → ℕ → ℕ → Message
-expectsBefore plan k up s q = cond (eqb s 0) none (messageWith (neighbourIn plan k (not up) q) (facesAt plan k up s q))
+expectsBefore plan k up s q = cond (eqb s 0) none (messageWith (neighbourBy plan k (not up) q) (facesAt plan k up s q))
 
 -- "it gives the slab visited, how many tiles that processor works on, the processor it sends to afterwards with the message length in elements,
 -- and the processor it receives from beforehand with the length it expects"
@@ -68,7 +68,7 @@ pub record Visit : Type 0 where
 unfoldable pub visitOf : Layout → ℕ → Bool → ℕ → ℕ → Visit
 visitOf plan k up s q = record {
   slab = slabVisited (cutOf plan k) up s;
-  tiles = held (plan .cuts) (ownerIn plan) (k - 1) (slabVisited (cutOf plan k) up s) q;
+  tiles = held (plan .cuts) (ownerBy plan) (k - 1) (slabVisited (cutOf plan k) up s) q;
   sends = sendsAfter plan k up s q;
   expects = expectsBefore plan k up s q;
 }

@@ -8,7 +8,7 @@ ghost use Rattle.numbers.specs.Products.{product};
 ghost use Rattle.layout.specs.Plans.{layoutOf};
 ghost use Rattle.layout.specs.Shaped.{Shaped};
 ghost use Rattle.timetable.specs.Timetable.{otherExtents};
-ghost use Rattle.timetable.specs.Rows.{Numbers};
+ghost use Rattle.timetable.specs.Rows.{ExtentRange};
 
 fn wide(number: u32) -> u64
     ensures { λ r. ⌜ r ≡ number ⌝ }
@@ -19,7 +19,7 @@ fn wide(number: u32) -> u64
 // Whether the product of the first d numbers, each from 1 to 1,000,000, is at most 4,294,967,295. It stops at the first product above, since no
 // later one is smaller.
 fn product_fits(d: usize, numbers: [u32; 5]) -> bool
-    requires { ⌜ Numbers d numbers ⌝ }
+    requires { ⌜ ExtentRange d numbers ⌝ }
     ensures { λ r. ⌜ r ≡ leb (product (take d numbers)) 4294967295 ⌝ }
 {
     let mut all: u64 = 1;

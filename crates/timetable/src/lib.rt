@@ -14,7 +14,7 @@ ghost use Rattle.multipartition.specs.Neighbours.{nextOwner};
 ghost use Rattle.multipartition.specs.Questions.{cutOf};
 ghost use Rattle.layout.specs.Plans.{layoutOf};
 ghost use Rattle.layout.specs.Shaped.{Shaped};
-ghost use Rattle.timetable.specs.Timetable.{neighbourIn, otherExtents, slabVisited, messageWith, visitOf, timetableAnswer};
+ghost use Rattle.timetable.specs.Timetable.{neighbourBy, otherExtents, slabVisited, messageWith, visitOf, timetableAnswer};
 ghost use Rattle.timetable.specs.Told.{toldMessage, toldVisit, toldVisited};
 
 // Whom a message goes to or comes from, and how many elements it has.
@@ -62,7 +62,7 @@ fn message_with(plan: Plan, k: usize, up: bool, q: u32, length: u32) -> Message
 // What processor q sends after a step: nothing after the last.
 fn sends(plan: Plan, k: usize, up: bool, step: u32, q: u32, length: u32) -> Message
     requires { ⌜ (Shaped plan) × (k < plan .d) × (step < getD (plan .cuts) k 0) ⌝ }
-    ensures { λ r. ⌜ toldMessage r ≡ cond (eqb (suc step) (cutOf (layoutOf plan) (k + 1))) none (messageWith (neighbourIn (layoutOf plan) (k + 1) up q) length) ⌝ }
+    ensures { λ r. ⌜ toldMessage r ≡ cond (eqb (suc step) (cutOf (layoutOf plan) (k + 1))) none (messageWith (neighbourBy (layoutOf plan) (k + 1) up q) length) ⌝ }
 {
     if step + 1 == plan.cuts[k] {
         return Message::Nobody;
@@ -73,7 +73,7 @@ fn sends(plan: Plan, k: usize, up: bool, step: u32, q: u32, length: u32) -> Mess
 // What processor q expects before a step: nothing before step 0.
 fn expects(plan: Plan, k: usize, up: bool, step: u32, q: u32, length: u32) -> Message
     requires { ⌜ (Shaped plan) × (k < plan .d) × (step < getD (plan .cuts) k 0) ⌝ }
-    ensures { λ r. ⌜ toldMessage r ≡ cond (eqb step 0) none (messageWith (neighbourIn (layoutOf plan) (k + 1) (not up) q) length) ⌝ }
+    ensures { λ r. ⌜ toldMessage r ≡ cond (eqb step 0) none (messageWith (neighbourBy (layoutOf plan) (k + 1) (not up) q) length) ⌝ }
 {
     if step == 0 {
         return Message::Nobody;

@@ -16,10 +16,11 @@ ghost use Rattle.multipartition.specs.Owners.{ownerAt};
 ghost use Rattle.multipartition.specs.Rivals.{held};
 ghost use Rattle.layout.specs.Plans.{layoutOf};
 ghost use Rattle.layout.specs.Shaped.{Shaped};
+ghost use Rattle.questions.specs.Bounds.{Small};
 ghost use Rattle.walks.specs.Walks.{IsProcessor, Strides};
 ghost use Rattle.timetable.specs.Faces.{thickness, thicknesses, facesHeld};
-ghost use Rattle.timetable.specs.Timetable.{ownerIn, otherExtents};
-ghost use Rattle.timetable.specs.Rows.{Placed, Within, Small, Weighed, lineOf, slabLine, LineAsked, SlabAsked, flattened, oneEach};
+ghost use Rattle.timetable.specs.Timetable.{ownerBy, otherExtents};
+ghost use Rattle.timetable.specs.Rows.{HasPlaces, BelowCuts, Weighed, lineOf, slabLine, LineAsked, SlabAsked, flattened, oneEach};
 
 // The faces of a processor in a slab, or a part of it, and how many tiles they are of.
 pub struct Tally {
@@ -38,7 +39,7 @@ fn thickness(n: u32, b: u32, s: u32) -> u32
 // The position with number r in the grid, the first dimension fastest.
 fn places(grid: Plan, r: u32) -> [u32; 5]
     requires { ⌜ Shaped grid ⌝ }
-    ensures { λ at. ⌜ Placed grid r at ⌝ }
+    ensures { λ at. ⌜ HasPlaces grid r at ⌝ }
 {
     let d = grid.d;
     let mut at: [u32; 5] = [0; 5];
@@ -53,7 +54,7 @@ fn places(grid: Plan, r: u32) -> [u32; 5]
 
 // The product of the thicknesses of the tile at a position.
 fn volume(grid: Plan, at: [u32; 5]) -> u32
-    requires { ⌜ (Shaped grid) × (Within grid at) × (product (take (grid .d) (grid .extents)) ≤ 4294967295) ⌝ }
+    requires { ⌜ (Shaped grid) × (BelowCuts grid at) × (product (take (grid .d) (grid .extents)) ≤ 4294967295) ⌝ }
     ensures { λ r. ⌜ r ≡ product (thicknesses (layoutOf grid .extents) (layoutOf grid .cuts) (take (grid .d) at)) ⌝ }
 {
     let d = grid.d;
@@ -237,7 +238,7 @@ fn flatten(plan: Plan, k: usize) -> Plan
 // Processor q's faces in slab v along place k, and its tiles.
 pub fn tally_in(plan: Plan, k: usize, v: u32, q: u32) -> Tally
     requires { ⌜ (Shaped plan) × (k < plan .d) × (v < getD (plan .cuts) k 0) × (q < plan .p) × (otherExtents (layoutOf plan) (k + 1) ≤ 4294967295) ⌝ }
-    ensures { λ r. ⌜ (r .faces ≡ facesHeld (layoutOf plan .extents) (layoutOf plan .cuts) (ownerIn (layoutOf plan)) k v q) × (r .tiles ≡ held (layoutOf plan .cuts) (ownerIn (layoutOf plan)) k v q) ⌝ }
+    ensures { λ r. ⌜ (r .faces ≡ facesHeld (layoutOf plan .extents) (layoutOf plan .cuts) (ownerBy (layoutOf plan)) k v q) × (r .tiles ≡ held (layoutOf plan .cuts) (ownerBy (layoutOf plan)) k v q) ⌝ }
 {
     let j = widest(plan, k);
     let mut weights: [u32; 4096] = [0; 4096];

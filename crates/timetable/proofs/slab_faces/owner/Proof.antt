@@ -7,7 +7,7 @@ use lib.Seq.{length-take-le, getD-take}
 use Rattle.layout.specs.Plans.{layoutOf}
 use Rattle.layout.proofs.Shaped.{in-shape-of-shaped}
 use Rattle.questions.proofs.Bounds.{reduced-of-shaped}
-use Rattle.timetable.proofs.Timetable.{owner-in-below}
+use Rattle.timetable.proofs.Timetable.{owner-by-below}
 use borrow.Author.Needs.{needs}
 use Rattle.timetable.proofs.slab_faces.owner.Statement.{statement}
 use Rattle.timetable.proofs.slab_faces.owner.Tie as tie
@@ -27,7 +27,7 @@ owner-number-requires : tie.Need-owner-number-requires
 owner-number-requires c κs =
     let s = c .before .before .before .before .before .before in (
       reduced-of-shaped (s .args .t1) (s .pre .0),
-      record { few = s .pre .0 .d-high; below = λ i l. rw (getD-take (s .args .t1 .d) (s .args .t2) i 0 l) (s .pre .1 i l) },
+      record { few = s .pre .0 .d-high; below = λ i l. rw (getD-take (s .args .t1 .d) (s .args .t2) i 0 l) (s .pre .1 .below i l) },
       search needs,
       length-take-le (s .args .t1 .d) (s .args .t2) (omega (arith, long s, s .pre .0 .d-high)),
     )
@@ -38,7 +38,7 @@ returns c =
     let s = c .before .before .before .before .before .before .before in (
       c .owner-number .ensures,
       subst⁻¹ (λ (n : ℕ). n < s .args .t1 .p) (c .owner-number .ensures)
-          (owner-in-below (layoutOf (s .args .t1)) (in-shape-of-shaped (s .args .t1) (s .pre .0)) (take (s .args .t1 .d) (s .args .t2))),
+          (owner-by-below (layoutOf (s .args .t1)) (in-shape-of-shaped (s .args .t1) (s .pre .0)) (take (s .args .t1 .d) (s .args .t2))),
     )
 
 pub owner-spec : {M : Type 1} → statement M

@@ -1,9 +1,10 @@
 -- `slab_line` meets its contract.
-use mathlib.Core.Path.{_≡_, _∙_, subst⁻¹}
+use mathlib.Core.Path.{_≡_, _∙_, subst, subst⁻¹}
 use Prim.Native.Nat.{ℕ, _≤_, _<_}
 use native.Mathlib.Nat.{lt-of-le-of-lt}
 use lib.Dec.{lit<}
-use lib.ListN.{length}
+use lib.ListN.{length, set}
+use Rattle.questions.specs.Bounds.{Small}
 use Rattle.walks.specs.Walks.{IsProcessor}
 use Rattle.timetable.proofs.Lines.{first-within, first-small, line-is, line-asked, count-is, count-asked}
 use borrow.Author.Needs.{needs}
@@ -31,8 +32,9 @@ owner-requires c κs =
     let placed = c .before .places in
     let long : length (placed .result) ≡ 5 = search needs in (
       s .pre .1 .shape,
-      λ i l. first-small (s .args .flat) (s .pre .1 .flat-shape) (s .args .r) (placed .result) long (placed .ensures) (s .args .k) (s .args .v) (s .pre .1 .slab-small)
-          (subst⁻¹ (λ (d : ℕ). s .args .k < d) (s .pre .1 .same-d) (s .pre .1 .dimension)) i (subst⁻¹ (λ (d : ℕ). i < d) (s .pre .1 .same-d) l),
+      subst (λ (d : ℕ). Small d (set (placed .result) (s .args .k) (s .args .v))) (s .pre .1 .same-d)
+          (first-small (s .args .flat) (s .pre .1 .flat-shape) (s .args .r) (placed .result) long (placed .ensures) (s .args .k) (s .args .v) (s .pre .1 .slab-small)
+          (subst⁻¹ (λ (d : ℕ). s .args .k < d) (s .pre .1 .same-d) (s .pre .1 .dimension))),
     )
 
 with-coordinates-requires : tie.Need-with-coordinates-requires
