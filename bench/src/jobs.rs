@@ -184,15 +184,16 @@ pub struct Visit {
     pub processor: u32,
 }
 
-/// Questions to the timetable. Its work grows with the lines of tiles in a slab, taken along the other dimension with
+/// Questions to the timetable. Its work grows with the rows of tiles in a slab, taken along the other dimension with
 /// the most slabs: 64 of them where there are 64 slabs each way, and many more in the other plans.
 pub fn sweeps() -> Vec<(&'static str, Vec<Visit>)> {
     let planned = |p, extents: &[u32], weights: &[u32]| {
         plan_job(p, extents.len() as u32, extents, weights).expect("the grid has cuts")
     };
     let cube = planned(4096, &[1000; 3], &[1; 3]);
-    // The most lines that the planner's plans of four and of five dimensions have in a slab, if the dimension swept
-    // is cut: 33,858 and 124,930.
+    // The most rows that the planner's plans of three, four and five dimensions have in a slab, if the dimension swept
+    // is cut: 2,048, 33,858 and 124,930.
+    let three = planned(4096, &[2, 2048, 2048], &[1; 3]);
     let four = planned(3762, &[1000, 1000, 2, 1000], &[4, 6, 9, 5]);
     let five = planned(4030, &[250, 250, 250, 2, 250], &[1; 5]);
     // And if it is not cut: 257,985.
@@ -202,6 +203,7 @@ pub fn sweeps() -> Vec<(&'static str, Vec<Visit>)> {
     by_hand.extents = [250; 5];
     vec![
         ("timetable, cuts 64 64 64", visits(&cube, &[1, 2, 3])),
+        ("timetable, cuts 2 2048 2048", visits(&three, &[1])),
         ("timetable, cuts 209 171 2 198", visits(&four, &[3])),
         ("timetable, cuts 25 81 81 2 50", visits(&by_hand, &[4])),
         ("timetable, cuts 31 62 65 2 65", visits(&five, &[4])),

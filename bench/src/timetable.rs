@@ -1,10 +1,10 @@
 //! The sweep timetable over plain lists, with the checks of request b in its order: 6 for the plan, 7 for the
 //! dimension, 11 for the other extents, 8 for the step and the processor, 9 for the answer list.
 //!
-//! The tiles of a slab are not looked at one by one. They lie in lines along the other dimension with the most
-//! slabs, and what the processor has of a line depends only on who owns the line's first tile: a table holds it
-//! for every such owner. The first tiles in turn lie in rows along the dimension with the most slabs of those
-//! left. The owner of a row's first tile is found by the formula, every other as the upward neighbour of the
+//! The tiles of a slab are not looked at one by one. They lie in rows along the other dimension with the most
+//! slabs, and what the processor has of a row depends only on who owns the row's first tile: a table holds it
+//! for every such owner. The first tiles in turn lie in lines along the dimension with the most slabs of those
+//! left. The owner of a line's first tile is found by the formula, every other as the upward neighbour of the
 //! one before, so that no neighbour costs a division.
 
 use crate::plan_list::{
@@ -195,7 +195,7 @@ fn share(plan: &PlanList, owners: &Owners, k: usize, slab: u32, own: &Coordinate
     let j = longest(plan, &left).expect("there are two dimensions or more");
     left[j] = false;
 
-    // What the processor has of a line along j, by the owner of the line's first tile.
+    // What the processor has of a row along j, by the owner of the row's first tile.
     let mut weights = [0u32; 4096];
     let mut counts = [0u32; 4096];
     let down = owners.shift(j, false);
@@ -207,7 +207,7 @@ fn share(plan: &PlanList, owners: &Owners, k: usize, slab: u32, own: &Coordinate
         owners.advance(&mut owner, &down);
     }
 
-    // The first tiles of the lines.
+    // The first tiles of the rows.
     let mut position = [0; 5];
     position[k] = slab;
     let Some(c) = longest(plan, &left) else {

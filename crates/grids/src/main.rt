@@ -314,20 +314,20 @@ fn put_uncut(out: &mut [u8], at: usize) -> usize
     put_neighbour(out, next, planned.plan, 3, 2, false)
 }
 
-// A step along a dimension of the plan with weights 1, for processors 0 to 3.
+// A step along a dimension, for processors 0 to 3; the weights are as many as the extents.
 fn put_step(
     out: &mut [u8],
     at: usize,
     p: u32,
     extents: &[u32],
+    weights: &[u32],
     dimension: usize,
     up: bool,
     step: u32,
 ) -> usize
     ensures { λ r. ⌜ length (now (out .exit)) ≡ length (now (out .entry)) ⌝ }
 {
-    let ones = [1u32; 3];
-    let planned = planner::plan_job(p, 3, extents, &ones);
+    let planned = planner::plan_job(p, extents.len(), extents, weights);
     let mut next = put_visited(out, at, planned.plan, dimension, up, step, 0);
     next = put_visited(out, next, planned.plan, dimension, up, step, 1);
     next = put_visited(out, next, planned.plan, dimension, up, step, 2);
@@ -339,10 +339,11 @@ fn put_cube_steps(out: &mut [u8], at: usize) -> usize
     ensures { λ r. ⌜ length (now (out .exit)) ≡ length (now (out .entry)) ⌝ }
 {
     let eights = [8u32, 8, 8];
-    let mut next = put_step(out, at, 4, &eights, 1, true, 0);
-    next = put_step(out, next, 4, &eights, 1, true, 1);
-    next = put_step(out, next, 4, &eights, 1, false, 0);
-    put_step(out, next, 4, &eights, 1, true, 2)
+    let ones = [1u32, 1, 1];
+    let mut next = put_step(out, at, 4, &eights, &ones, 1, true, 0);
+    next = put_step(out, next, 4, &eights, &ones, 1, true, 1);
+    next = put_step(out, next, 4, &eights, &ones, 1, false, 0);
+    put_step(out, next, 4, &eights, &ones, 1, true, 2)
 }
 
 // Tiles of unlike thickness: 6 processors on 9 9 9, and 4 on 5 7 9.
@@ -351,10 +352,11 @@ fn put_unlike_steps(out: &mut [u8], at: usize) -> usize
 {
     let nines = [9u32, 9, 9];
     let unlike = [5u32, 7, 9];
-    let mut next = put_step(out, at, 6, &nines, 2, true, 0);
-    next = put_step(out, next, 6, &nines, 2, true, 1);
-    next = put_step(out, next, 4, &unlike, 3, true, 0);
-    put_step(out, next, 4, &unlike, 1, true, 0)
+    let ones = [1u32, 1, 1];
+    let mut next = put_step(out, at, 6, &nines, &ones, 2, true, 0);
+    next = put_step(out, next, 6, &nines, &ones, 2, true, 1);
+    next = put_step(out, next, 4, &unlike, &ones, 3, true, 0);
+    put_step(out, next, 4, &unlike, &ones, 1, true, 0)
 }
 
 // 2 processors on m n 2, along dimension 3, where the product of the other extents is at the limit of 32 bits: processors 2 and 3 are not there.
@@ -365,10 +367,24 @@ fn put_limits(out: &mut [u8], at: usize) -> usize
     let below = [65535u32, 65537, 2];
     let long_above = [1000000u32, 4295, 2];
     let long_below = [1000000u32, 4294, 2];
-    let mut next = put_step(out, at, 2, &above, 3, true, 0);
-    next = put_step(out, next, 2, &below, 3, true, 0);
-    next = put_step(out, next, 2, &long_above, 3, true, 0);
-    put_step(out, next, 2, &long_below, 3, true, 0)
+    let ones = [1u32, 1, 1];
+    let mut next = put_step(out, at, 2, &above, &ones, 3, true, 0);
+    next = put_step(out, next, 2, &below, &ones, 3, true, 0);
+    next = put_step(out, next, 2, &long_above, &ones, 3, true, 0);
+    put_step(out, next, 2, &long_below, &ones, 3, true, 0)
+}
+
+// Three slabs of 6 processors on 9 9 9, going down, and two of 4 on 10 10.
+fn put_more_steps(out: &mut [u8], at: usize) -> usize
+    ensures { λ r. ⌜ length (now (out .exit)) ≡ length (now (out .entry)) ⌝ }
+{
+    let nines = [9u32, 9, 9];
+    let tens = [10u32, 10];
+    let ones = [1u32, 1, 1];
+    let mut next = put_step(out, at, 6, &nines, &ones, 2, false, 0);
+    next = put_step(out, next, 6, &nines, &ones, 2, false, 1);
+    next = put_step(out, next, 4, &tens, &ones[..2], 1, true, 0);
+    put_step(out, next, 4, &tens, &ones[..2], 1, true, 1)
 }
 
 // A plan made by hand, of 3 by 2 tiles on 6 processors, in which processor 1 has no tile in the first slab.
@@ -396,6 +412,7 @@ fn main() {
     n = put_uncut(&mut out, n);
     n = put_cube_steps(&mut out, n);
     n = put_unlike_steps(&mut out, n);
+    n = put_more_steps(&mut out, n);
     n = put_limits(&mut out, n);
     n = put_uneven(&mut out, n);
     if n <= 4096 {

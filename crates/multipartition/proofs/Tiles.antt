@@ -205,7 +205,7 @@ lt-length [] k l = absurd (omega arith)
 lt-length (x ∷ xs) zero l = omega arith
 lt-length (x ∷ xs) (suc k) l = omega (arith, lt-length xs k l)
 
-inside-set : (cuts position : List ℕ) (k i : ℕ) → Inside cuts position → i < getD cuts k 0 → Inside cuts (set position k i)
+pub inside-set : (cuts position : List ℕ) (k i : ℕ) → Inside cuts position → i < getD cuts k 0 → Inside cuts (set position k i)
 unfolding Inside
 inside-set [] [] k i h l = tt
 inside-set [] (j ∷ position) k i h l = absurd h
@@ -229,6 +229,15 @@ module _ (cuts position next : List ℕ) (k : ℕ) where
       let parts = some-of-cond-not (eqb (getD position k 0) 0) (set position k (getD position k 0 - 1)) next e in
       let high = eqb-false (getD position k 0) 0 (parts .0) in
       (omega (arith, high), parts .1)
+
+-- from slab i one step leads to the next, where it is there, and from the next back
+pub step-up : (cuts position : List ℕ) (k i : ℕ) → getD position k 0 ≡ i → suc i < getD cuts k 0 → oneStepOn cuts k true position ≡ some (set position k (suc i))
+unfolding oneStepOn
+step-up cuts position k i e l = rw (e, lt-ltb (suc i) (getD cuts k 0) l)
+
+pub step-down : (cuts position : List ℕ) (k i : ℕ) → getD position k 0 ≡ suc i → oneStepOn cuts k false position ≡ some (set position k i)
+unfolding oneStepOn
+step-down cuts position k i e = let back : suc i - 1 ≡ i = omega arith in rw (e, ne-eqb (suc i) 0 (λ z. absurd (omega arith)), back)
 
 -- a coordinate that is not 0 is one of the d
 coordinate-below : (cuts position : List ℕ) (k : ℕ) → Inside cuts position → zero < getD position k 0 → getD position k 0 < getD cuts k 0

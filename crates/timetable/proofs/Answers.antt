@@ -3,7 +3,7 @@ use mathlib.Core.Path.{_≡_, ap}
 use mathlib.Core.Logic.{_↔_}
 use mathlib.Core.Bool.{Bool, true, _&&_}
 use mathlib.Core.List.{List, [], _∷_}
-use Prim.Native.Nat.{ℕ, _≤_, _<_}
+use Prim.Native.Nat.{ℕ, _<_}
 use borrow.Author.Tests.{not-false}
 use lib.Dec.{leb, ltb}
 use Rattle.multipartition.specs.Answers.{answered, Check}
@@ -11,15 +11,7 @@ use Rattle.multipartition.specs.Plans.{Layout, between, inShape}
 use Rattle.multipartition.specs.Questions.{cutOf, shapeCheck, dimensionCheck, rangeCheck}
 use Rattle.multipartition.proofs.Answers.{answers-iff}
 use Rattle.multipartition.proofs.Tests.{and-iff, leb-iff, ltb-iff}
-use Rattle.timetable.specs.Timetable.{otherExtents, lengthsCheck, Visit, visitOf, timetableAnswer}
-
--- a question that passes the checks
-pub record Asked (plan : Layout) (k s q : ℕ) : Type 0 where
-  pub shape : inShape plan ≡ true
-  pub dimension : between 1 (plan .d) k ≡ true
-  pub lengths-fit : otherExtents plan k ≤ 4294967295
-  pub step-below : s < cutOf plan k
-  pub processor-below : q < plan .p
+use Rattle.timetable.specs.Timetable.{otherExtents, otherExtentsCheck, Asked, Visit, visitOf, timetableAnswer}
 
 pub timetable-answered : (plan : Layout) (k : ℕ) (up : Bool) (s q : ℕ) (visit : Visit)
     → (timetableAnswer plan k up s q ≡ answered visit) ↔ (Asked plan k s q × (visitOf plan k up s q ≡ visit))
@@ -31,7 +23,7 @@ timetable-answered plan k up s q visit = (
         record {
           shape = not-false (inShape plan) (h .0 .0);
           dimension = not-false (between 1 (plan .d) k) (h .0 .1 .0);
-          lengths-fit = leb-iff (otherExtents plan k) 4294967295 .0 (not-false (leb (otherExtents plan k) 4294967295) (h .0 .1 .1 .0));
+          extents-fit = leb-iff (otherExtents plan k) 4294967295 .0 (not-false (leb (otherExtents plan k) 4294967295) (h .0 .1 .1 .0));
           step-below = range .0;
           processor-below = range .1;
         },
@@ -41,7 +33,7 @@ timetable-answered plan k up s q visit = (
       rw (
         asked .shape,
         asked .dimension,
-        leb-iff (otherExtents plan k) 4294967295 .1 (asked .lengths-fit),
+        leb-iff (otherExtents plan k) 4294967295 .1 (asked .extents-fit),
         ranges .1 (asked .step-below, asked .processor-below),
       )
       (ap answered (h .1)),
@@ -51,7 +43,7 @@ timetable-answered plan k up s q visit = (
     below = ltb s (cutOf plan k) && ltb q (plan .p)
 
     checks : List Check
-    checks = shapeCheck plan ∷ dimensionCheck plan k ∷ lengthsCheck plan k ∷ rangeCheck below ∷ []
+    checks = shapeCheck plan ∷ dimensionCheck plan k ∷ otherExtentsCheck plan k ∷ rangeCheck below ∷ []
 
     ranges : (ltb s (cutOf plan k) && ltb q (plan .p) ≡ true) ↔ ((s < cutOf plan k) × (q < plan .p))
     ranges = and-iff (ltb s (cutOf plan k)) (ltb q (plan .p)) (ltb-iff s (cutOf plan k)) (ltb-iff q (plan .p))

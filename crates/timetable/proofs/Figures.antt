@@ -53,8 +53,8 @@ pub record Question : Type 0 where
   pub s : ℕ
   pub q : ℕ
 
-abbrev pub asked : Question → Answer Visit
-asked question = timetableAnswer (question .plan) (question .k) (question .up) (question .s) (question .q)
+abbrev pub answerTo : Question → Answer Visit
+answerTo question = timetableAnswer (question .plan) (question .k) (question .up) (question .s) (question .q)
 
 abbrev pub questions : List Question
 questions =
@@ -64,6 +64,9 @@ questions =
     ∷ record { plan = box; k = 2; up = true; s = 0; q = 0 }
     ∷ record { plan = box; k = 2; up = true; s = 0; q = 1 }
     ∷ record { plan = box; k = 2; up = true; s = 1; q = 0 }
+    ∷ record { plan = box; k = 2; up = false; s = 0; q = 0 }
+    ∷ record { plan = box; k = 2; up = false; s = 1; q = 0 }
+    ∷ record { plan = box; k = 2; up = false; s = 2; q = 0 }
     ∷ record { plan = uneven; k = 1; up = true; s = 0; q = 1 }
     ∷ record { plan = long 65536 65536; k = 3; up = true; s = 9; q = 9 }
     ∷ record { plan = long 65536 65536; k = 4; up = true; s = 9; q = 9 }
@@ -72,13 +75,16 @@ questions =
     ∷ record { plan = long 65535 65537; k = 3; up = true; s = 0; q = 2 }
     ∷ []
 
-pub figures : map asked questions
+pub figures : map answerTo questions
     ≡ answered (record { slab = 0; tiles = 1; sends = some (2, 16); expects = none })
     ∷ answered (record { slab = 1; tiles = 1; sends = none; expects = some (0, 16) })
     ∷ answered (record { slab = 1; tiles = 1; sends = some (2, 16); expects = none })
     ∷ answered (record { slab = 0; tiles = 2; sends = some (4, 14); expects = none })
     ∷ answered (record { slab = 0; tiles = 2; sends = some (5, 13); expects = none })
     ∷ answered (record { slab = 1; tiles = 2; sends = some (4, 14); expects = some (2, 14) })
+    ∷ answered (record { slab = 2; tiles = 2; sends = some (2, 14); expects = none })
+    ∷ answered (record { slab = 1; tiles = 2; sends = some (2, 14); expects = some (4, 14) })
+    ∷ answered (record { slab = 0; tiles = 2; sends = none; expects = some (4, 14) })
     ∷ answered (record { slab = 0; tiles = 0; sends = some (3, 0); expects = none })
     ∷ refused 11 0
     ∷ refused 7 0

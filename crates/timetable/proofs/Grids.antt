@@ -22,7 +22,7 @@ use Rattle.layout.proofs.Places.{extents-length, cuts-length, extent-at, cut-at
 use Rattle.layout.proofs.Shaped.{in-shape-of-shaped}
 use Rattle.timetable.specs.Faces.{facesHeld}
 use Rattle.timetable.specs.Timetable.{ownerBy, otherExtents}
-use Rattle.timetable.specs.Rows.{placesOf, weightOf, Weighed, lineIn, slabLine, ExtentRange, SlabAsked, flattened, oneEach}
+use Rattle.timetable.specs.Rows.{placesOf, elementsOf, RowTable, lineIn, slabLine, ExtentRange, SlabAsked, flattened, oneEach}
 use Rattle.timetable.proofs.Faces.{Cut, held-faces-add-up}
 use Rattle.timetable.proofs.Rows.{flat, product-set, places-inside}
 use Rattle.timetable.proofs.Steps.{faces-of-lines}
@@ -191,7 +191,7 @@ unfolding flattened
 flat-d plan k i l = l
 
 module _ (plan : Plan) (s : Shaped plan) (k j c v q : ℕ) (lk : k < plan .d) (lj : j < plan .d) (lc : c < plan .d) (j-apart : j ≢ k) (c-apart : c ≢ k)
-    (lv : v < getD (plan .cuts) k 0) (lq : q < plan .p) (table : List ℕ) (w : Weighed plan j q (getD (plan .cuts) j 0) table) where
+    (lv : v < getD (plan .cuts) k 0) (lq : q < plan .p) (table : List ℕ) (w : RowTable plan j q (getD (plan .cuts) j 0) table) where
   -- the plan with dimensions k and j flat
   abbrev grid : Plan
   grid = flattened j (flattened k plan)
@@ -217,12 +217,12 @@ module _ (plan : Plan) (s : Shaped plan) (k j c v q : ℕ) (lk : k < plan .d) (l
   unfolding layoutOf flattened
   slab-lines =
       faces-of-lines (layoutOf plan) (in-shape-of-shaped plan s) (same-lengths plan s) (cuts-length plan s) k j c v q table (in-layout plan s k lk)
-      (in-layout plan s j lj) (in-layout plan s c lc) j-apart c-apart (subst⁻¹ (λ (n : ℕ). v < n) (cut-at plan k lk) lv) lq weighed
+      (in-layout plan s j lj) (in-layout plan s c lc) j-apart c-apart (subst⁻¹ (λ (n : ℕ). v < n) (cut-at plan k lk) lv) lq tabled
       ∙ lines-are
     where
-      weighed : (o : ℕ) → o < 4096
-          → getD table o 0 ≡ weightOf (layoutOf plan .moduli) (layoutOf plan .matrix) j (getD (layoutOf plan .extents) j 0) (getD (layoutOf plan .cuts) j 0) q (getD (layoutOf plan .cuts) j 0) o
-      weighed o l = rw (extent-at plan j lj, cut-at plan j lj) (w .weight o l)
+      tabled : (o : ℕ) → o < 4096
+          → getD table o 0 ≡ elementsOf (layoutOf plan .moduli) (layoutOf plan .matrix) j (getD (layoutOf plan .extents) j 0) (getD (layoutOf plan .cuts) j 0) q (getD (layoutOf plan .cuts) j 0) o
+      tabled o l = rw (extent-at plan j lj, cut-at plan j lj) (w .entry o l)
 
       n-is : getD (flat k j (layoutOf plan .extents)) c 0 ≡ getD (grid .extents) c 0
       n-is = ap (λ (l : List ℕ). getD l c 0) (sym grid-extents) ∙ extent-at grid c (in-grid c lc)

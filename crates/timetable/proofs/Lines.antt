@@ -99,37 +99,37 @@ count-more grid c table o t l =
     ∙ one-mul (getD table (stepsOn (layoutOf grid .moduli) (layoutOf grid .matrix) c true t o) 0))
 
 -- the walk along a line with the sums of its first t slabs
-pub record Walked (grid : Plan) (c : ℕ) (weights counts : List ℕ) (o t : ℕ) (at : Coordinated) (first faces tiles : ℕ) : Type 0 where
+pub record Walked (grid : Plan) (c : ℕ) (elements counts : List ℕ) (o t : ℕ) (at : Coordinated) (first faces tiles : ℕ) : Type 0 where
   pub walk : Walk grid c true o t at first
-  pub faces-are : faces ≡ lineOf grid c weights t o
+  pub faces-are : faces ≡ lineOf grid c elements t o
   pub tiles-are : tiles ≡ lineOf (oneEach grid) c counts t o
 
-pub walked-none : (grid : Plan) (c : ℕ) (weights counts : List ℕ) (o : ℕ) (from : Coordinated) (first : ℕ) → Walk grid c true o 0 from first
-    → Walked grid c weights counts o 0 from first 0 0
+pub walked-none : (grid : Plan) (c : ℕ) (elements counts : List ℕ) (o : ℕ) (from : Coordinated) (first : ℕ) → Walk grid c true o 0 from first
+    → Walked grid c elements counts o 0 from first 0 0
 unfolding sum
-walked-none grid c weights counts o from first w = record { walk = w; faces-are = refl; tiles-are = refl }
+walked-none grid c elements counts o from first w = record { walk = w; faces-are = refl; tiles-are = refl }
 
-module _ (grid : Plan) (s : Shaped grid) (c : ℕ) (lc : c < grid .d) (weights counts : List ℕ) (o t : ℕ) (l : t < getD (grid .cuts) c 0)
-    (at : Coordinated) (first faces tiles : ℕ) (w : Walked grid c weights counts o t at first faces tiles)
+module _ (grid : Plan) (s : Shaped grid) (c : ℕ) (lc : c < grid .d) (elements counts : List ℕ) (o t : ℕ) (l : t < getD (grid .cuts) c 0)
+    (at : Coordinated) (first faces tiles : ℕ) (w : Walked grid c elements counts o t at first faces tiles)
     (after : ℕ) (e : after ≡ slabStart (getD (grid .extents) c 0) (getD (grid .cuts) c 0) (t + 1)) where
-  faces-more : faces + (after - first) * getD weights (at .number) 0 ≡ lineOf grid c weights (t + 1) o
+  faces-more : faces + (after - first) * getD elements (at .number) 0 ≡ lineOf grid c elements (t + 1) o
   faces-more =
-      ap₂ (λ (m n : ℕ). faces + m * getD weights n 0) (walk-side grid s c lc true o t at first (w .walk) after e) (w .walk .stands .number-is)
-      ∙ ap (λ (m : ℕ). m + thickness (getD (grid .extents) c 0) (getD (grid .cuts) c 0) t * getD weights (stepsOn (layoutOf grid .moduli) (layoutOf grid .matrix) c true t o) 0) (w .faces-are)
-      ∙ sym (line-more grid c weights o t)
+      ap₂ (λ (m n : ℕ). faces + m * getD elements n 0) (walk-side grid s c lc true o t at first (w .walk) after e) (w .walk .stands .number-is)
+      ∙ ap (λ (m : ℕ). m + thickness (getD (grid .extents) c 0) (getD (grid .cuts) c 0) t * getD elements (stepsOn (layoutOf grid .moduli) (layoutOf grid .matrix) c true t o) 0) (w .faces-are)
+      ∙ sym (line-more grid c elements o t)
 
   tiles-more : tiles + getD counts (at .number) 0 ≡ lineOf (oneEach grid) c counts (t + 1) o
   tiles-more = ap₂ (λ (m n : ℕ). m + getD counts n 0) (w .tiles-are) (w .walk .stands .number-is) ∙ sym (count-more grid c counts o t l)
 
-  pub walked-faces-fit : lineOf grid c weights (getD (grid .cuts) c 0) o ≤ 4294967295 → faces + (after - first) * getD weights (at .number) 0 ≤ 4294967295
-  walked-faces-fit fits = subst⁻¹ (λ (n : ℕ). n ≤ 4294967295) faces-more (le-trans (line-within grid c weights o t l) fits)
+  pub walked-faces-fit : lineOf grid c elements (getD (grid .cuts) c 0) o ≤ 4294967295 → faces + (after - first) * getD elements (at .number) 0 ≤ 4294967295
+  walked-faces-fit fits = subst⁻¹ (λ (n : ℕ). n ≤ 4294967295) faces-more (le-trans (line-within grid c elements o t l) fits)
 
   pub walked-tiles-fit : lineOf (oneEach grid) c counts (getD (grid .cuts) c 0) o ≤ 4294967295 → tiles + getD counts (at .number) 0 ≤ 4294967295
   unfolding oneEach
   walked-tiles-fit fits = subst⁻¹ (λ (n : ℕ). n ≤ 4294967295) tiles-more (le-trans (line-within (oneEach grid) c counts o t l) fits)
 
   pub walked-more : (up : Stride) (to : Coordinated) → Strides grid c true up → Steps up at to
-      → Walked grid c weights counts o (t + 1) to after (faces + (after - first) * getD weights (at .number) 0) (tiles + getD counts (at .number) 0)
+      → Walked grid c elements counts o (t + 1) to after (faces + (after - first) * getD elements (at .number) 0) (tiles + getD counts (at .number) 0)
   walked-more up to strides steps = record {
     walk = walk-more grid s c lc true o t at first (w .walk) after e up to strides steps;
     faces-are = faces-more;

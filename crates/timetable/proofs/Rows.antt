@@ -215,11 +215,11 @@ module _ (extents cuts : List ℕ) (k j c : ℕ) (e : length extents ≡ length 
   flat-lengths : length flat-extents ≡ length flat-cuts
   flat-lengths = length-set (set extents k 1) j 1 ∙ slab-lengths ∙ sym (length-set (set cuts k 1) j 1)
 
-  module _ (owner : List ℕ → ℕ) (v q : ℕ) (weight line : ℕ → ℕ) (lv : v < getD cuts k 0)
+  module _ (owner : List ℕ → ℕ) (v q : ℕ) (entry line : ℕ → ℕ) (lv : v < getD cuts k 0)
       (on-row : (y : List ℕ) → Inside cuts y → getD y j 0 ≡ 0
-      → sum (getD cuts j 0) (λ t. thickness (getD extents j 0) (getD cuts j 0) t * same (owner (set y j t)) q) ≡ weight (owner y))
+      → sum (getD cuts j 0) (λ t. thickness (getD extents j 0) (getD cuts j 0) t * same (owner (set y j t)) q) ≡ entry (owner y))
       (on-line : (y : List ℕ) → Inside cuts y → getD y c 0 ≡ 0 → ((t : ℕ) → t < getD (flat k j cuts) c 0 → Inside cuts (set y c t))
-      → sum (getD (flat k j cuts) c 0) (λ t. thickness (getD (flat k j extents) c 0) (getD (flat k j cuts) c 0) t * weight (owner (set y c t))) ≡ line (owner y)) where
+      → sum (getD (flat k j cuts) c 0) (λ t. thickness (getD (flat k j extents) c 0) (getD (flat k j cuts) c 0) t * entry (owner (set y c t))) ≡ line (owner y)) where
     -- the position of the slab above one of the flat grid
     raised : (x : List ℕ) → Inside flat-cuts x → Inside cuts (set x k v)
     raised x inside = inside-raised cuts x k v (inside-unflat (set cuts k 1) x j in-slab (low-flat cuts k low j in-slab) inside) lv
@@ -234,7 +234,7 @@ module _ (extents cuts : List ℕ) (k j c : ℕ) (e : length extents ≡ length 
 
     rows : (x : List ℕ) → Inside flat-cuts x
         → sum (getD (set cuts k 1) j 0) (λ t. thickness (getD (set extents k 1) j 0) (getD (set cuts k 1) j 0) t * same (owner (set (set x j t) k v)) q)
-        ≡ weight (owner (set x k v))
+        ≡ entry (owner (set x k v))
     rows x inside =
         ap₂ (λ (n b : ℕ). sum b (λ t. thickness n b t * same (owner (set (set x j t) k v)) q)) (getD-set-other extents k j 1 0 j-apart) (getD-set-other cuts k j 1 0 j-apart)
         ∙ sum-cong (getD cuts j 0) (λ t l.
@@ -242,11 +242,11 @@ module _ (extents cuts : List ℕ) (k j c : ℕ) (e : length extents ≡ length 
         ∙ on-row (set x k v) (raised x inside) (getD-set-other x k j v 0 j-apart ∙ flat-place (set cuts k 1) x j in-slab inside)
 
     lines : (x : List ℕ) → Inside (set flat-cuts c 1) x
-        → sum (getD flat-cuts c 0) (λ t. thickness (getD flat-extents c 0) (getD flat-cuts c 0) t * weight (owner (set (set x c t) k v)))
+        → sum (getD flat-cuts c 0) (λ t. thickness (getD flat-extents c 0) (getD flat-cuts c 0) t * entry (owner (set (set x c t) k v)))
         ≡ line (owner (set x k v))
     lines x inside =
         sum-cong (getD flat-cuts c 0) (λ t l.
-        ap (λ (y : List ℕ). thickness (getD flat-extents c 0) (getD flat-cuts c 0) t * weight (owner y)) (set-comm x c k t v c-apart))
+        ap (λ (y : List ℕ). thickness (getD flat-extents c 0) (getD flat-cuts c 0) t * entry (owner y)) (set-comm x c k t v c-apart))
         ∙ on-line (set x k v) (raised x (inside-unflat flat-cuts x c in-flat (flat-low c in-flat) inside))
         (getD-set-other x k c v 0 c-apart ∙ flat-place flat-cuts x c in-flat inside)
         (λ t l. subst (Inside cuts) (set-comm x c k t v c-apart) (raised (set x c t) (inside-raised flat-cuts x c t inside l)))
@@ -261,7 +261,7 @@ module _ (extents cuts : List ℕ) (k j c : ℕ) (e : length extents ≡ length 
         ∙ total-ext (set cuts k 1) faced
         ∙ take-out (set extents k 1) (set cuts k 1) j (λ x. same (owner (set x k v)) q) slab-lengths in-slab
         ∙ total-ext flat-cuts (λ x inside. ap (λ (n : ℕ). volume flat-extents flat-cuts x * n) (rows x inside))
-        ∙ take-out flat-extents flat-cuts c (λ x. weight (owner (set x k v))) flat-lengths in-flat
+        ∙ take-out flat-extents flat-cuts c (λ x. entry (owner (set x k v))) flat-lengths in-flat
         ∙ total-ext (set flat-cuts c 1) (λ x inside. ap (λ (n : ℕ). volume (set flat-extents c 1) (set flat-cuts c 1) x * n) (lines x inside))
         ∙ total-places (set flat-cuts c 1) (λ x. volume (set flat-extents c 1) (set flat-cuts c 1) x * line (owner (set x k v)))
         (positive-of-places (set flat-cuts c 1) (low-flat flat-cuts c flat-low))

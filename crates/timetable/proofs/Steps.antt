@@ -3,12 +3,11 @@
 use mathlib.Core.Path.{_≡_, refl, sym, ap, _∙_, subst, subst⁻¹}
 use mathlib.Core.Logic.{_≢_}
 use mathlib.Core.Bool.{Bool, true, false, not}
-use mathlib.Core.List.{List, [], _∷_}
+use mathlib.Core.List.{List}
 use mathlib.Core.Option.{some, Option·some-injective}
 use Prim.Native.Nat.{ℕ, zero, suc, _*_, _≤_, _<_}
 use native.Mathlib.Nat.{le-trans, mul-comm}
 use native.Mathlib.Omega.{arith}
-use borrow.Author.Tests.{lt-ltb}
 use lib.ListN.{length, getD, set}
 use lib.Seq.{getD-set-same, set-getD, set-set}
 use Rattle.numbers.specs.Products.{product}
@@ -20,10 +19,10 @@ use Rattle.multipartition.proofs.GridSums.{sum-cong, same-iff}
 use Rattle.multipartition.proofs.MixedRadix.{Positive}
 use Rattle.multipartition.proofs.Neighbours.{neighbour-some, next-owner-below, next-owner-back}
 use Rattle.multipartition.proofs.Plans.{in-shape-iff, in-shape-moduli-positive, in-shape-neighbour-owns}
-use Rattle.multipartition.proofs.Tiles.{inside-length, inside-below}
+use Rattle.multipartition.proofs.Tiles.{inside-length, inside-below, inside-set, step-up}
 use Rattle.timetable.specs.Faces.{thickness, facesHeld}
 use Rattle.timetable.specs.Timetable.{ownerBy}
-use Rattle.timetable.specs.Rows.{stepsOn, weightOf, lineOver, lineIn}
+use Rattle.timetable.specs.Rows.{stepsOn, elementsOf, lineOver, lineIn}
 use Rattle.timetable.proofs.Rows.{flat, faces-by-lines}
 use Rattle.timetable.proofs.Timetable.{owner-by-below}
 
@@ -59,18 +58,6 @@ module _ (moduli : List ℕ) (matrix : List (List ℕ)) (positive : Positive mod
 
 -- ---- owners along a row
 
-inside-set : (cuts x : List ℕ) (k i : ℕ) → Inside cuts x → i < getD cuts k 0 → Inside cuts (set x k i)
-unfolding Inside
-inside-set [] [] k i h l = tt
-inside-set [] (j ∷ x) k i h l = absurd h
-inside-set (b ∷ cuts) [] k i h l = absurd h
-inside-set (b ∷ cuts) (j ∷ x) zero i h l = (l, h .1)
-inside-set (b ∷ cuts) (j ∷ x) (suc k) i h l = (h .0, inside-set cuts x k i (h .1) l)
-
-one-up : (cuts x : List ℕ) (j t : ℕ) → getD x j 0 ≡ t → suc t < getD cuts j 0 → oneStepOn cuts j true x ≡ some (set x j (suc t))
-unfolding oneStepOn
-one-up cuts x j t e l = rw (e, lt-ltb (suc t) (getD cuts j 0) l)
-
 module _ (plan : Layout) (shape : inShape plan ≡ true) where
   facts : InShape plan
   facts = in-shape-iff plan .0 shape
@@ -105,16 +92,16 @@ module _ (plan : Layout) (shape : inShape plan ≡ true) where
 
       step : oneStepOn (plan .cuts) j true here ≡ some next
       step =
-          one-up (plan .cuts) here j t (getD-set-same y j t 0 (subst⁻¹ (λ (n : ℕ). j < n) (inside-length (plan .cuts) y inside) lj)) l
+          step-up (plan .cuts) here j t (getD-set-same y j t 0 (subst⁻¹ (λ (n : ℕ). j < n) (inside-length (plan .cuts) y inside) lj)) l
           ∙ ap some (set-set y j t (suc t))
 
-  -- ---- the faces by rows and lines, with a table of weights
+  -- ---- the faces by rows and lines, with a table of rows
 
   module _ (same-length : length (plan .extents) ≡ length (plan .cuts)) (few : length (plan .cuts) ≡ plan .d) (k j c v q : ℕ) (table : List ℕ)
       (lk : k < length (plan .cuts)) (lj : j < length (plan .cuts)) (lc : c < length (plan .cuts)) (j-apart : j ≢ k) (c-apart : c ≢ k)
       (lv : v < getD (plan .cuts) k 0) (lq : q < plan .p)
       (filled : (o : ℕ) → o < 4096
-      → getD table o 0 ≡ weightOf (plan .moduli) (plan .matrix) j (getD (plan .extents) j 0) (getD (plan .cuts) j 0) q (getD (plan .cuts) j 0) o) where
+      → getD table o 0 ≡ elementsOf (plan .moduli) (plan .matrix) j (getD (plan .extents) j 0) (getD (plan .cuts) j 0) q (getD (plan .cuts) j 0) o) where
     low : (i : ℕ) → i < length (plan .cuts) → 1 ≤ getD (plan .cuts) i 0
     low i l = facts .cut-range i (subst (λ (n : ℕ). i < n) few l) .0
 

@@ -1,4 +1,4 @@
--- What the loops over thicknesses, weights and lines keep: products of thicknesses stay within those of the extents, and weights within one extent.
+-- What the loops over thicknesses, elements and lines keep: products of thicknesses stay within those of the extents, and elements within one extent.
 use mathlib.Core.Path.{_≡_, refl, sym, ap, ap₂, _∙_, subst, subst⁻¹}
 use mathlib.Core.List.{List, [], _∷_}
 use mathlib.Core.Bool.{false}
@@ -28,7 +28,7 @@ use Rattle.walks.specs.declared.Coordinated.{Coordinated}
 use Rattle.walks.specs.declared.Stride.{Stride}
 use Rattle.walks.specs.Walks.{Strides, Steps}
 use Rattle.timetable.specs.Faces.{thickness, thicknesses, faceOf, facesHeld}
-use Rattle.timetable.specs.Rows.{stepsOn, weightOf, Weighed, oneEach}
+use Rattle.timetable.specs.Rows.{stepsOn, elementsOf, RowTable, oneEach}
 use Rattle.timetable.proofs.Faces.{Cut, sum-thickness, held-faces}
 use Rattle.timetable.proofs.Rows.{length-thicknesses}
 use Rattle.timetable.proofs.Walks.{Walk, walk-side, walk-small, walk-more}
@@ -121,7 +121,7 @@ faces-are-tiles cuts owner k v q l =
     ∙ sym (slabSum-total k v cuts (λ x. same (owner x) q) l)
     ∙ sym (held-total cuts owner k v q)
 
--- ---- weights
+-- ---- elements
 
 same-mul-le : (x y n : ℕ) → same x y * n ≤ n
 same-mul-le x y n = go (ℕ-discrete x y)
@@ -130,19 +130,19 @@ same-mul-le x y n = go (ℕ-discrete x y)
     go (yes e) = subst⁻¹ (λ (m : ℕ). m * n ≤ n) (same-yes x y e) (omega arith)
     go (no f) = subst⁻¹ (λ (m : ℕ). m * n ≤ n) (same-no x y f) (omega arith)
 
-weight-le : (moduli : List ℕ) (matrix : List (List ℕ)) (j n b q m o : ℕ) → weightOf moduli matrix j n b q m o ≤ sum m (thickness n b)
+entry-le : (moduli : List ℕ) (matrix : List (List ℕ)) (j n b q m o : ℕ) → elementsOf moduli matrix j n b q m o ≤ sum m (thickness n b)
 unfolding sum
-weight-le moduli matrix j n b q zero o = le-refl 0
-weight-le moduli matrix j n b q (suc m) o =
-    omega (arith, weight-le moduli matrix j n b q m o, same-mul-le (stepsOn moduli matrix j false m q) o (thickness n b m))
+entry-le moduli matrix j n b q zero o = le-refl 0
+entry-le moduli matrix j n b q (suc m) o =
+    omega (arith, entry-le moduli matrix j n b q m o, same-mul-le (stepsOn moduli matrix j false m q) o (thickness n b m))
 
--- with one slab more a weight is at most the extent
-weight-fits : (moduli : List ℕ) (matrix : List (List ℕ)) (j n b q m o : ℕ) → 1 ≤ b → b ≤ n → m < b
-    → weightOf moduli matrix j n b q m o + thickness n b m ≤ n
-weight-fits moduli matrix j n b q m o low high l =
+-- with one slab more an entry is at most the extent
+entry-fits : (moduli : List ℕ) (matrix : List (List ℕ)) (j n b q m o : ℕ) → 1 ≤ b → b ≤ n → m < b
+    → elementsOf moduli matrix j n b q m o + thickness n b m ≤ n
+entry-fits moduli matrix j n b q m o low high l =
     omega (
       arith,
-      weight-le moduli matrix j n b q m o,
+      entry-le moduli matrix j n b q m o,
       sum-thickness n b m low high (omega arith),
       slab-start-rises n b m low high l,
       slabs-in-order n b low high (suc m) b l (le-refl b),
@@ -155,68 +155,68 @@ module _ (plan : Plan) (j q : ℕ) where
   zeros (suc n) zero = refl
   zeros (suc n) (suc o) = zeros n o
 
-  pub weighed-none : Weighed plan j q 0 (replicate 4096 0)
+  pub table-none : RowTable plan j q 0 (replicate 4096 0)
   unfolding sum
-  weighed-none = record { places = length-replicate {A = ℕ} 4096 0; weight = λ o l. zeros 4096 o }
+  table-none = record { places = length-replicate {A = ℕ} 4096 0; entry = λ o l. zeros 4096 o }
 
-  weighed-more : (m o t : ℕ) (table : List ℕ) → o ≡ stepsOn (layoutOf plan .moduli) (layoutOf plan .matrix) j false m q → o < 4096
-      → t ≡ thickness (getD (plan .extents) j 0) (getD (plan .cuts) j 0) m → Weighed plan j q m table
-      → Weighed plan j q (m + 1) (set table o (getD table o 0 + t))
+  table-more : (m o t : ℕ) (table : List ℕ) → o ≡ stepsOn (layoutOf plan .moduli) (layoutOf plan .matrix) j false m q → o < 4096
+      → t ≡ thickness (getD (plan .extents) j 0) (getD (plan .cuts) j 0) m → RowTable plan j q m table
+      → RowTable plan j q (m + 1) (set table o (getD table o 0 + t))
   unfolding sum
-  weighed-more m o t table e l et w = record {
+  table-more m o t table e l et w = record {
     places = length-set table o (getD table o 0 + t) ∙ w .places;
-    weight = λ a h. subst⁻¹ (λ (n : ℕ). getD (set table o (getD table o 0 + t)) a 0 ≡ weights n a) (add-one m) (go a h (ℕ-discrete o a));
+    entry = λ a h. subst⁻¹ (λ (n : ℕ). getD (set table o (getD table o 0 + t)) a 0 ≡ elements n a) (add-one m) (go a h (ℕ-discrete o a));
   }
     where
-      weights : ℕ → ℕ → ℕ
-      weights = weightOf (layoutOf plan .moduli) (layoutOf plan .matrix) j (getD (plan .extents) j 0) (getD (plan .cuts) j 0) q
+      elements : ℕ → ℕ → ℕ
+      elements = elementsOf (layoutOf plan .moduli) (layoutOf plan .matrix) j (getD (plan .extents) j 0) (getD (plan .cuts) j 0) q
 
       step : ℕ
       step = thickness (getD (plan .extents) j 0) (getD (plan .cuts) j 0) m
 
-      go : (a : ℕ) → a < 4096 → Dec (o ≡ a) → getD (set table o (getD table o 0 + t)) a 0 ≡ weights m a + same (stepsOn (layoutOf plan .moduli) (layoutOf plan .matrix) j false m q) a * step
+      go : (a : ℕ) → a < 4096 → Dec (o ≡ a) → getD (set table o (getD table o 0 + t)) a 0 ≡ elements m a + same (stepsOn (layoutOf plan .moduli) (layoutOf plan .matrix) j false m q) a * step
       go a h (yes z) =
           ap (λ (n : ℕ). getD (set table o (getD table o 0 + t)) n 0) (sym z)
           ∙ getD-set-same table o (getD table o 0 + t) 0 (subst⁻¹ (λ (n : ℕ). o < n) (w .places) l)
-          ∙ ap₂ _+_ (ap (λ (n : ℕ). getD table n 0) z ∙ w .weight a h)
+          ∙ ap₂ _+_ (ap (λ (n : ℕ). getD table n 0) z ∙ w .entry a h)
           (et ∙ sym (one-mul step) ∙ ap (λ (n : ℕ). n * step) (sym (same-yes (stepsOn (layoutOf plan .moduli) (layoutOf plan .matrix) j false m q) a (sym e ∙ z))))
       go a h (no f) =
           getD-set-other table o a (getD table o 0 + t) 0 (λ z. f (sym z))
-          ∙ w .weight a h
-          ∙ nothing (weights m a)
-          ∙ ap (λ (n : ℕ). weights m a + n * step) (sym (same-no (stepsOn (layoutOf plan .moduli) (layoutOf plan .matrix) j false m q) a (λ z. f (e ∙ z))))
+          ∙ w .entry a h
+          ∙ nothing (elements m a)
+          ∙ ap (λ (n : ℕ). elements m a + n * step) (sym (same-no (stepsOn (layoutOf plan .moduli) (layoutOf plan .matrix) j false m q) a (λ z. f (e ∙ z))))
         where
           nothing : (n : ℕ) → n ≡ n + 0 * step
           nothing n = omega arith
 
--- ---- a table of counts: the weights with one element in every slab
+-- ---- a table of counts: the elements with one element in every slab
 
 module _ (plan : Plan) (j q m o : ℕ) (table : List ℕ) (small : o < 4096) (more : m < getD (plan .cuts) j 0) where
-  counted-fits : Weighed (oneEach plan) j q m table → getD table o 0 + 1 ≤ getD (plan .cuts) j 0
+  counted-fits : RowTable (oneEach plan) j q m table → getD table o 0 + 1 ≤ getD (plan .cuts) j 0
   unfolding oneEach
   counted-fits w =
       omega (
         arith,
-        w .weight o small,
-        weight-fits (layoutOf (oneEach plan) .moduli) (layoutOf (oneEach plan) .matrix) j (getD (plan .cuts) j 0) (getD (plan .cuts) j 0) q m o (omega arith) (le-refl _) more,
+        w .entry o small,
+        entry-fits (layoutOf (oneEach plan) .moduli) (layoutOf (oneEach plan) .matrix) j (getD (plan .cuts) j 0) (getD (plan .cuts) j 0) q m o (omega arith) (le-refl _) more,
         thickness-of-one (getD (plan .cuts) j 0) m more,
       )
 
-  counted-more : o ≡ stepsOn (layoutOf plan .moduli) (layoutOf plan .matrix) j false m q → Weighed (oneEach plan) j q m table
-      → Weighed (oneEach plan) j q (m + 1) (set table o (getD table o 0 + 1))
+  counted-more : o ≡ stepsOn (layoutOf plan .moduli) (layoutOf plan .matrix) j false m q → RowTable (oneEach plan) j q m table
+      → RowTable (oneEach plan) j q (m + 1) (set table o (getD table o 0 + 1))
   unfolding oneEach layoutOf
-  counted-more e w = weighed-more (oneEach plan) j q m o 1 table e small (sym (thickness-of-one (getD (plan .cuts) j 0) m more)) w
+  counted-more e w = table-more (oneEach plan) j q m o 1 table e small (sym (thickness-of-one (getD (plan .cuts) j 0) m more)) w
 
 -- ---- both tables as they are filled
 
 -- the walk down from q with the tables of the first t slabs
-pub record Sharing (plan : Plan) (j q t : ℕ) (weights counts : List ℕ) (at : Coordinated) (first : ℕ) : Type 0 where
+pub record Sharing (plan : Plan) (j q t : ℕ) (elements counts : List ℕ) (at : Coordinated) (first : ℕ) : Type 0 where
   pub walk : Walk plan j false q t at first
-  pub weighed : Weighed plan j q t weights
-  pub counted : Weighed (oneEach plan) j q t counts
+  pub elements-table : RowTable plan j q t elements
+  pub counts-table : RowTable (oneEach plan) j q t counts
 
-module _ (plan : Plan) (s : Shaped plan) (j : ℕ) (lj : j < plan .d) (q t : ℕ) (l : t < getD (plan .cuts) j 0) (weights counts : List ℕ)
-    (at : Coordinated) (first : ℕ) (w : Sharing plan j q t weights counts at first)
+module _ (plan : Plan) (s : Shaped plan) (j : ℕ) (lj : j < plan .d) (q t : ℕ) (l : t < getD (plan .cuts) j 0) (elements counts : List ℕ)
+    (at : Coordinated) (first : ℕ) (w : Sharing plan j q t elements counts at first)
     (after : ℕ) (e : after ≡ slabStart (getD (plan .extents) j 0) (getD (plan .cuts) j 0) (t + 1)) where
   small : at .number < 4096
   small = walk-small plan s j lj false q t at first (w .walk)
@@ -224,26 +224,26 @@ module _ (plan : Plan) (s : Shaped plan) (j : ℕ) (lj : j < plan .d) (q t : ℕ
   side : after - first ≡ thickness (getD (plan .extents) j 0) (getD (plan .cuts) j 0) t
   side = walk-side plan s j lj false q t at first (w .walk) after e
 
-  pub weight-asked : (at .number < length weights) × (getD weights (at .number) 0 + (after - first) ≤ 4294967295)
-  weight-asked =
-      rw (w .weighed .places) (
+  pub elements-asked : (at .number < length elements) × (getD elements (at .number) 0 + (after - first) ≤ 4294967295)
+  elements-asked =
+      rw (w .elements-table .places) (
         small,
         omega (
           arith,
           side,
-          w .weighed .weight (at .number) small,
-          weight-fits (layoutOf plan .moduli) (layoutOf plan .matrix) j (getD (plan .extents) j 0) (getD (plan .cuts) j 0) q t (at .number) (s .cut-low j lj) (s .cut-fits j lj) l,
+          w .elements-table .entry (at .number) small,
+          entry-fits (layoutOf plan .moduli) (layoutOf plan .matrix) j (getD (plan .extents) j 0) (getD (plan .cuts) j 0) q t (at .number) (s .cut-low j lj) (s .cut-fits j lj) l,
           s .extent-high j lj,
         ),
       )
 
   pub count-asked : (at .number < length counts) × (getD counts (at .number) 0 + 1 ≤ 4294967295)
-  count-asked = rw (w .counted .places) (small, omega (arith, counted-fits plan j q t (at .number) counts small l (w .counted), s .cut-high j lj))
+  count-asked = rw (w .counts-table .places) (small, omega (arith, counted-fits plan j q t (at .number) counts small l (w .counts-table), s .cut-high j lj))
 
   pub sharing-more : (down : Stride) (to : Coordinated) → Strides plan j false down → Steps down at to
-      → Sharing plan j q (t + 1) (set weights (at .number) (getD weights (at .number) 0 + (after - first))) (set counts (at .number) (getD counts (at .number) 0 + 1)) to after
+      → Sharing plan j q (t + 1) (set elements (at .number) (getD elements (at .number) 0 + (after - first))) (set counts (at .number) (getD counts (at .number) 0 + 1)) to after
   sharing-more down to strides steps = record {
     walk = walk-more plan s j lj false q t at first (w .walk) after e down to strides steps;
-    weighed = weighed-more plan j q t (at .number) (after - first) weights (w .walk .stands .number-is) small side (w .weighed);
-    counted = counted-more plan j q t (at .number) counts small l (w .walk .stands .number-is) (w .counted);
+    elements-table = table-more plan j q t (at .number) (after - first) elements (w .walk .stands .number-is) small side (w .elements-table);
+    counts-table = counted-more plan j q t (at .number) counts small l (w .walk .stands .number-is) (w .counts-table);
   }

@@ -13,7 +13,7 @@ use Rattle.layout.specs.Shaped.{Shaped}
 use Rattle.layout.proofs.Places.{cut-at}
 use Rattle.timetable.specs.Faces.{facesHeld}
 use Rattle.timetable.specs.Timetable.{ownerBy, otherExtents}
-use Rattle.timetable.specs.Rows.{Weighed, slabLine, SlabAsked, flattened, oneEach}
+use Rattle.timetable.specs.Rows.{RowTable, slabLine, SlabAsked, flattened, oneEach}
 use Rattle.timetable.proofs.Grids.{shaped-flat, shaped-one-each, one-each-fits, slab-lines, slab-asked}
 use Rattle.timetable.proofs.Tables.{faces-are-tiles}
 
@@ -44,7 +44,7 @@ module _ (plan : Plan) (s : Shaped plan) (k v q : ℕ) (lk : k < plan .d) (lv : 
   in-plan : c < plan .d
   in-plan = flat-d plan once grid k j c e-once e-grid lc
 
-  module _ (w : Weighed plan j q (getD (plan .cuts) j 0) table) where
+  module _ (w : RowTable plan j q (getD (plan .cuts) j 0) table) where
     pub tally-asked : otherExtents (layoutOf plan) (k + 1) ≤ 4294967295
         → SlabAsked grid flat c k v table (sum (product (layoutOf flat .cuts)) (slabLine grid flat c k v table))
     tally-asked fits =
@@ -63,7 +63,7 @@ module _ (plan : Plan) (s : Shaped plan) (k v q : ℕ) (lk : k < plan .d) (lv : 
 module _ (plan : Plan) (s : Shaped plan) (k v q : ℕ) (lk : k < plan .d) (lv : v < getD (plan .cuts) k 0) (lq : q < plan .p)
     (j : ℕ) (lj : j < plan .d) (j-apart : j ≢ k) (once grid : Plan) (e-once : once ≡ flattened k plan) (e-grid : grid ≡ flattened j once)
     (c : ℕ) (lc : c < grid .d) (c-apart : c ≢ k) (flat : Plan) (e-flat : flat ≡ flattened c grid) (table : List ℕ)
-    (w : Weighed (oneEach plan) j q (getD (plan .cuts) j 0) table) where
+    (w : RowTable (oneEach plan) j q (getD (plan .cuts) j 0) table) where
   pub count-tally-asked : SlabAsked (oneEach grid) (oneEach flat) c k v table (sum (product (layoutOf flat .cuts)) (slabLine (oneEach grid) (oneEach flat) c k v table))
   unfolding oneEach layoutOf
   count-tally-asked =

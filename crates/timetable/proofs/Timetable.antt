@@ -3,13 +3,13 @@
 use mathlib.Core.Path.{_≡_, refl, sym, ap, _∙_, subst, subst⁻¹}
 use mathlib.Core.Logic.{_↔_, _≢_}
 use mathlib.Core.Bool.{Bool, true, false, not, cond}
-use mathlib.Core.List.{List, [], _∷_}
+use mathlib.Core.List.{List}
 use mathlib.Core.Option.{Option, none, some, Option·some-injective, Option·none-ne-some, Option·some-ne-none}
-use Prim.Native.Nat.{ℕ, zero, suc, _-_, _*_, _/_, _≤_, _<_, _∣_}
-use native.Mathlib.Nat.{not-suc-le-zero, le-trans}
+use Prim.Native.Nat.{ℕ, suc, _-_, _*_, _/_, _≤_, _<_, _∣_}
+use native.Mathlib.Nat.{le-trans}
 use native.Mathlib.Decide.{ℕ-discrete}
 use native.Mathlib.Omega.{arith}
-use borrow.Author.Tests.{eqb-false, eq-eqb, ne-eqb, lt-ltb}
+use borrow.Author.Tests.{eqb-false, eq-eqb, ne-eqb}
 use lib.Dec.{eqb}
 use lib.ListN.{length, getD, set}
 use Rattle.numbers.specs.Sums.{sum}
@@ -29,15 +29,16 @@ use Rattle.multipartition.proofs.Jobs.{plan-answered}
 use Rattle.multipartition.proofs.Neighbours.{neighbour-some, next-owner-below}
 use Rattle.multipartition.proofs.Owners.{owner-below-product, even-owners, share-exact}
 use Rattle.multipartition.proofs.Plans.{in-shape-iff, in-shape-moduli-positive, in-shape-neighbour-owns, in-shape-neighbour-returns}
+use Rattle.multipartition.proofs.Tiles.{lt-length, step-up, step-down}
 use Rattle.layout.specs.declared.Plan.{Plan}
 use Rattle.layout.specs.Plans.{layoutOf, planOf}
 use Rattle.layout.specs.Sized.{Sized}
 use Rattle.layout.proofs.Places.{extents-length, cuts-length}
 use Rattle.layout.proofs.Plans.{layout-of-plan, layout-with-sized}
 use Rattle.layout.proofs.Shaped.{shaped}
-use Rattle.timetable.specs.Timetable.{ownerBy, neighbourBy, otherExtents, slabVisited, facesAt, Message, messageWith, lengthOf, sendsAfter, expectsBefore, Visit, visitOf, timetableAnswer, Sends, Expects, sentIn}
+use Rattle.timetable.specs.Timetable.{ownerBy, neighbourBy, otherExtents, slabVisited, facesAt, Message, messageWith, lengthOf, sendsAfter, expectsBefore, Visit, visitOf, timetableAnswer, Asked, Sends, Expects, sentIn}
 use Rattle.timetable.proofs.Faces.{Cut, held-faces-move, held-faces-add-up}
-use Rattle.timetable.proofs.Answers.{Asked, timetable-answered}
+use Rattle.timetable.proofs.Answers.{timetable-answered}
 
 -- ---- steps and slabs
 
@@ -48,18 +49,12 @@ slab-visited-below b false s l = omega arith
 -- from the slab of one step to that of the next is one step in the sweep's direction
 next-slab : (cuts : List ℕ) (k : ℕ) (up : Bool) (s : ℕ) (x : List ℕ) → suc s < getD cuts k 0 → getD x k 0 ≡ slabVisited (getD cuts k 0) up s
     → oneStepOn cuts k up x ≡ some (set x k (slabVisited (getD cuts k 0) up (suc s)))
-unfolding oneStepOn
-next-slab cuts k true s x l e = rw (e, lt-ltb (suc s) (getD cuts k 0) l)
-next-slab cuts k false s x l e =
-    let b : ℕ = getD cuts k 0 in
-    let down : b - 1 - s - 1 ≡ b - 1 - suc s = omega arith in
-    rw (e, ne-eqb (b - 1 - s) 0 (λ z. absurd (omega arith)), down)
+next-slab cuts k true s x l e = step-up cuts x k s e l
+next-slab cuts k false s x l e = let next : getD cuts k 0 - 1 - s ≡ suc (getD cuts k 0 - 1 - suc s) = omega arith in step-down cuts x k (getD cuts k 0 - 1 - suc s) (e ∙ next)
 
--- a list has a place whose number is not the default
+-- a list has a place whose number is above another
 within : (l : List ℕ) (k n : ℕ) → n < getD l k 0 → k < length l
-within [] k n h = absurd (not-suc-le-zero h)
-within (x ∷ l) zero n h = omega arith
-within (x ∷ l) (suc k) n h = omega (arith, within l k n h)
+within l k n h = lt-length l k (omega arith)
 
 -- ---- messages
 
@@ -160,7 +155,7 @@ asked-of : (plan : Layout) (k s q s′ q′ : ℕ) → Asked plan k s q → s′
 asked-of plan k s q s′ q′ asked ls lq = record {
   shape = asked .shape;
   dimension = asked .dimension;
-  lengths-fit = asked .lengths-fit;
+  extents-fit = asked .extents-fit;
   step-below = ls;
   processor-below = lq;
 }
@@ -276,12 +271,12 @@ module _ (plan : Plan) (k : ℕ) (up : Bool) (s q : ℕ) (visit : Visit) (e : ti
       subst (λ (n : ℕ). facesAt (layoutOf plan) k up s q ≤ n) slab-faces-add-up
       (sum-term-le (layoutOf plan .p) q (facesAt (layoutOf plan) k up s) (asked-here .processor-below))
 
-  -- no message is longer than that product, and so than 4,294,967,295
+  -- no message has more than 4,294,967,295 elements
   pub lengths-fit : (lengthOf (visit .sends) ≤ 4294967295) × (lengthOf (visit .expects) ≤ 4294967295)
   unfolding visitOf sendsAfter expectsBefore
   lengths-fit =
       let faces : ℕ = facesAt (layoutOf plan) k up s q in
-      let short : faces ≤ 4294967295 = le-trans faces-fit (asked-here .lengths-fit) in
+      let short : faces ≤ 4294967295 = le-trans faces-fit (asked-here .extents-fit) in
       subst (λ (v : Visit). (lengthOf (v .sends) ≤ 4294967295) × (lengthOf (v .expects) ≤ 4294967295))
       (timetable-answered (layoutOf plan) k up s q visit .0 e .1) (
         le-trans (length-unless (eqb (suc s) (cutOf (layoutOf plan) k)) (neighbourBy (layoutOf plan) k up q) faces) short,

@@ -26,8 +26,8 @@ stepsOn moduli matrix j up zero q = q
 stepsOn moduli matrix j up (suc t) q = nextOwner moduli matrix j up (stepsOn moduli matrix j up t q)
 
 -- how many elements along dimension j, of n elements in b slabs, lie in tiles of q, where the row's first tile is o's; of the first m slabs
-abbrev pub weightOf : List ℕ → List (List ℕ) → ℕ → ℕ → ℕ → ℕ → ℕ → ℕ → ℕ
-weightOf moduli matrix j n b q m o = sum m (λ t. same (stepsOn moduli matrix j false t q) o * thickness n b t)
+abbrev pub elementsOf : List ℕ → List (List ℕ) → ℕ → ℕ → ℕ → ℕ → ℕ → ℕ → ℕ
+elementsOf moduli matrix j n b q m o = sum m (λ t. same (stepsOn moduli matrix j false t q) o * thickness n b t)
 
 -- the rows of a line along dimension c, of n elements in b slabs, where the line's first tile is o's: their thickness along c times what the table
 -- has of them; of the first m slabs
@@ -62,11 +62,11 @@ oneEach plan = record {
   matrix = plan .matrix;
 }
 
--- a table with the weight of each processor, for the first m slabs of dimension j
-pub record Weighed (plan : Plan) (j q m : ℕ) (table : List ℕ) : Type 0 where
+-- a table of rows along dimension j, with an entry for each owner of a row's first tile: the elements that the first m slabs have of q
+pub record RowTable (plan : Plan) (j q m : ℕ) (table : List ℕ) : Type 0 where
   pub places : length table ≡ 4096
-  pub weight : (o : ℕ) → o < 4096
-      → getD table o 0 ≡ weightOf (layoutOf plan .moduli) (layoutOf plan .matrix) j (getD (plan .extents) j 0) (getD (plan .cuts) j 0) q m o
+  pub entry : (o : ℕ) → o < 4096
+      → getD table o 0 ≡ elementsOf (layoutOf plan .moduli) (layoutOf plan .matrix) j (getD (plan .extents) j 0) (getD (plan .cuts) j 0) q m o
 
 -- the line along dimension c whose first tile is o's, of the first m slabs
 abbrev pub lineOf : Plan → ℕ → List ℕ → ℕ → ℕ → ℕ

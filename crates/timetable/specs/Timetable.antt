@@ -3,13 +3,13 @@ use mathlib.Core.Bool.{Bool, true, false, not, cond, _&&_}
 use mathlib.Core.List.{List, [], _∷_}
 use mathlib.Core.Option.{Option, none, some}
 use mathlib.Core.Path.{_≡_}
-use Prim.Native.Nat.{ℕ, suc, _-_}
+use Prim.Native.Nat.{ℕ, suc, _-_, _≤_, _<_}
 use lib.Dec.{leb, ltb, eqb}
 use Rattle.numbers.specs.Products.{product, without}
 use Rattle.multipartition.specs.Answers.{Answer, answered, refused, Check, checked}
 use Rattle.multipartition.specs.Owners.{ownerAt}
 use Rattle.multipartition.specs.Neighbours.{neighbourAt}
-use Rattle.multipartition.specs.Plans.{Layout}
+use Rattle.multipartition.specs.Plans.{Layout, between, inShape}
 use Rattle.multipartition.specs.Questions.{cutOf, shapeCheck, dimensionCheck, rangeCheck}
 use Rattle.multipartition.specs.Rivals.{held}
 use Rattle.timetable.specs.Faces.{facesHeld}
@@ -74,16 +74,24 @@ visitOf plan k up s q = record {
 }
 
 -- "11, the product of the other extents is above 4,294,967,295"
-abbrev pub lengthsCheck : Layout → ℕ → Check
-lengthsCheck plan k = record { fails = not (leb (otherExtents plan k) 4294967295); number = 11; place = 0 }
+abbrev pub otherExtentsCheck : Layout → ℕ → Check
+otherExtentsCheck plan k = record { fails = not (leb (otherExtents plan k) 4294967295); number = 11; place = 0 }
 
 -- "For a plan, a dimension, a direction, a step and a processor": 11 comes "after 7 and before 8; a step not below bk is an 8"
 unfoldable pub timetableAnswer : Layout → ℕ → Bool → ℕ → ℕ → Answer Visit
 timetableAnswer plan k up s q =
-    checked (shapeCheck plan ∷ dimensionCheck plan k ∷ lengthsCheck plan k ∷ rangeCheck (ltb s (cutOf plan k) && ltb q (plan .p)) ∷ [])
+    checked (shapeCheck plan ∷ dimensionCheck plan k ∷ otherExtentsCheck plan k ∷ rangeCheck (ltb s (cutOf plan k) && ltb q (plan .p)) ∷ [])
     (answered (visitOf plan k up s q))
 
--- ---- what the answers say of messages
+-- ---- what the answers say
+
+-- a question that passes the checks
+pub record Asked (plan : Layout) (k s q : ℕ) : Type 0 where
+  pub shape : inShape plan ≡ true
+  pub dimension : between 1 (plan .d) k ≡ true
+  pub extents-fit : otherExtents plan k ≤ 4294967295
+  pub step-below : s < cutOf plan k
+  pub processor-below : q < plan .p
 
 -- processor q is answered that after step s it sends r a message of n elements
 abbrev pub Sends : Layout → ℕ → Bool → ℕ → ℕ → ℕ → ℕ → Type 0

@@ -1,6 +1,6 @@
 // The sweep timetable: which slab a processor visits at a step of a sweep, how many tiles it works on, whom it sends to afterwards and whom it
 // receives from beforehand. It rests on what the questions and the slabs promise.
-mod lengths; // lengths.rt: whether every message length of a sweep fits 32 bits
+mod extents; // extents.rt: whether the product of the other extents fits 32 bits
 mod slab_faces; // slab_faces.rt: a processor's tiles in a slab, and their faces
 
 use layout::Plan;
@@ -104,7 +104,7 @@ fn visited_along(plan: Plan, k: usize, up: bool, step: u32, processor: u32) -> V
     requires { ⌜ (Shaped plan) × (k < plan .d) ⌝ }
     ensures { λ r. ⌜ toldVisited r ≡ timetableAnswer (layoutOf plan) (k + 1) up step processor ⌝ }
 {
-    if !lengths::lengths_fit(plan, k) {
+    if !extents::others_fit(plan, k) {
         return Visited::Refused {
             number: 11,
             place: 0,

@@ -20,7 +20,7 @@ ghost use Rattle.questions.specs.Bounds.{Small};
 ghost use Rattle.walks.specs.Walks.{IsProcessor, Strides};
 ghost use Rattle.timetable.specs.Faces.{thickness, thicknesses, facesHeld};
 ghost use Rattle.timetable.specs.Timetable.{ownerBy, otherExtents};
-ghost use Rattle.timetable.specs.Rows.{HasPlaces, BelowCuts, Weighed, lineOf, slabLine, LineAsked, SlabAsked, flattened, oneEach};
+ghost use Rattle.timetable.specs.Rows.{HasPlaces, BelowCuts, RowTable, lineOf, slabLine, LineAsked, SlabAsked, flattened, oneEach};
 
 // The faces of a processor in a slab, or a part of it, and how many tiles they are of.
 pub struct Tally {
@@ -121,9 +121,9 @@ fn add_at(table: &mut [u32], at: usize, more: u32)
 
 // What a row along place j has of processor q, for each owner of the row's first tile: elements along j, and tiles. Going down from q, the owners are
 // those whose rows have q one slab further each time.
-fn fill_shares(plan: Plan, j: usize, q: u32, weights: &mut [u32], counts: &mut [u32])
-    requires { ⌜ (Shaped plan) × (j < plan .d) × (q < plan .p) × (Weighed plan j q 0 (now weights)) × (Weighed (oneEach plan) j q 0 (now counts)) ⌝ }
-    ensures { λ r. ⌜ (Weighed plan j q (getD (plan .cuts) j 0) (now (weights .exit))) × (Weighed (oneEach plan) j q (getD (plan .cuts) j 0) (now (counts .exit))) ⌝ }
+fn fill_shares(plan: Plan, j: usize, q: u32, elements: &mut [u32], counts: &mut [u32])
+    requires { ⌜ (Shaped plan) × (j < plan .d) × (q < plan .p) × (RowTable plan j q 0 (now elements)) × (RowTable (oneEach plan) j q 0 (now counts)) ⌝ }
+    ensures { λ r. ⌜ (RowTable plan j q (getD (plan .cuts) j 0) (now (elements .exit))) × (RowTable (oneEach plan) j q (getD (plan .cuts) j 0) (now (counts .exit))) ⌝ }
 {
     let b = plan.cuts[j];
     let down = walks::stride_along(plan, j, false);
@@ -132,7 +132,7 @@ fn fill_shares(plan: Plan, j: usize, q: u32, weights: &mut [u32], counts: &mut [
     for t in 0..b {
         let after = start(plan.extents[j], b, t + 1);
         let o = at.number as usize;
-        add_at(weights, o, after - first);
+        add_at(elements, o, after - first);
         add_at(counts, o, 1);
         first = after;
         at = walks::next(down, at);
@@ -145,11 +145,11 @@ fn along<'a>(
     c: usize,
     up: Stride,
     from: Coordinated,
-    weights: &'a [u32],
+    elements: &'a [u32],
     counts: &'a [u32],
 ) -> Tally
-    requires { ⌜ (IsProcessor grid (from .number) from) × (Strides grid c true up) × (LineAsked grid c (now weights) (from .number)) × (LineAsked (oneEach grid) c (now counts) (from .number)) ⌝ }
-    ensures { λ r. ⌜ (r .faces ≡ lineOf grid c (now (weights .entry)) (getD (grid .cuts) c 0) (from .number)) × (r .tiles ≡ lineOf (oneEach grid) c (now (counts .entry)) (getD (grid .cuts) c 0) (from .number)) ⌝ }
+    requires { ⌜ (IsProcessor grid (from .number) from) × (Strides grid c true up) × (LineAsked grid c (now elements) (from .number)) × (LineAsked (oneEach grid) c (now counts) (from .number)) ⌝ }
+    ensures { λ r. ⌜ (r .faces ≡ lineOf grid c (now (elements .entry)) (getD (grid .cuts) c 0) (from .number)) × (r .tiles ≡ lineOf (oneEach grid) c (now (counts .entry)) (getD (grid .cuts) c 0) (from .number)) ⌝ }
 {
     let b = grid.cuts[c];
     let mut at = from;
@@ -159,7 +159,7 @@ fn along<'a>(
     for t in 0..b {
         let after = start(grid.extents[c], b, t + 1);
         let o = at.number as usize;
-        faces = faces + (after - first) * weights[o];
+        faces = faces + (after - first) * elements[o];
         tiles = tiles + counts[o];
         first = after;
         at = walks::next(up, at);
@@ -179,17 +179,17 @@ fn slab_line<'a>(
     k: usize,
     v: u32,
     r: u32,
-    weights: &'a [u32],
+    elements: &'a [u32],
     counts: &'a [u32],
 ) -> Tally
-    requires { ⌜ (Strides grid c true up) × (SlabAsked grid flat c k v (now weights) (slabLine grid flat c k v (now weights) r)) × (SlabAsked (oneEach grid) (oneEach flat) c k v (now counts) (slabLine (oneEach grid) (oneEach flat) c k v (now counts) r)) ⌝ }
-    ensures { λ n. ⌜ (n .faces ≡ slabLine grid flat c k v (now (weights .entry)) r) × (n .tiles ≡ slabLine (oneEach grid) (oneEach flat) c k v (now (counts .entry)) r) ⌝ }
+    requires { ⌜ (Strides grid c true up) × (SlabAsked grid flat c k v (now elements) (slabLine grid flat c k v (now elements) r)) × (SlabAsked (oneEach grid) (oneEach flat) c k v (now counts) (slabLine (oneEach grid) (oneEach flat) c k v (now counts) r)) ⌝ }
+    ensures { λ n. ⌜ (n .faces ≡ slabLine grid flat c k v (now (elements .entry)) r) × (n .tiles ≡ slabLine (oneEach grid) (oneEach flat) c k v (now (counts .entry)) r) ⌝ }
 {
     let mut at = places(flat, r);
     let shared = volume(flat, at);
     at[k] = v;
     let from = walks::with_coordinates(grid, owner(grid, at));
-    let line = along(grid, c, up, from, weights, counts);
+    let line = along(grid, c, up, from, elements, counts);
     Tally {
         faces: shared * line.faces,
         tiles: line.tiles,
@@ -203,18 +203,18 @@ fn all_lines<'a>(
     c: usize,
     k: usize,
     v: u32,
-    weights: &'a [u32],
+    elements: &'a [u32],
     counts: &'a [u32],
 ) -> Tally
-    requires { ⌜ (SlabAsked grid flat c k v (now weights) (sum (product (layoutOf flat .cuts)) (slabLine grid flat c k v (now weights)))) × (SlabAsked (oneEach grid) (oneEach flat) c k v (now counts) (sum (product (layoutOf flat .cuts)) (slabLine (oneEach grid) (oneEach flat) c k v (now counts)))) ⌝ }
-    ensures { λ n. ⌜ (n .faces ≡ sum (product (layoutOf flat .cuts)) (slabLine grid flat c k v (now (weights .entry)))) × (n .tiles ≡ sum (product (layoutOf flat .cuts)) (slabLine (oneEach grid) (oneEach flat) c k v (now (counts .entry)))) ⌝ }
+    requires { ⌜ (SlabAsked grid flat c k v (now elements) (sum (product (layoutOf flat .cuts)) (slabLine grid flat c k v (now elements)))) × (SlabAsked (oneEach grid) (oneEach flat) c k v (now counts) (sum (product (layoutOf flat .cuts)) (slabLine (oneEach grid) (oneEach flat) c k v (now counts)))) ⌝ }
+    ensures { λ n. ⌜ (n .faces ≡ sum (product (layoutOf flat .cuts)) (slabLine grid flat c k v (now (elements .entry)))) × (n .tiles ≡ sum (product (layoutOf flat .cuts)) (slabLine (oneEach grid) (oneEach flat) c k v (now (counts .entry)))) ⌝ }
 {
     let up = walks::stride_along(grid, c, true);
     let count = layout::tile_count(flat) as u32;
     let mut faces: u32 = 0;
     let mut tiles: u32 = 0;
     for r in 0..count {
-        let part = slab_line(grid, flat, c, up, k, v, r, weights, counts);
+        let part = slab_line(grid, flat, c, up, k, v, r, elements, counts);
         faces = faces + part.faces;
         tiles = tiles + part.tiles;
     }
@@ -241,12 +241,12 @@ pub fn tally_in(plan: Plan, k: usize, v: u32, q: u32) -> Tally
     ensures { λ r. ⌜ (r .faces ≡ facesHeld (layoutOf plan .extents) (layoutOf plan .cuts) (ownerBy (layoutOf plan)) k v q) × (r .tiles ≡ held (layoutOf plan .cuts) (ownerBy (layoutOf plan)) k v q) ⌝ }
 {
     let j = widest(plan, k);
-    let mut weights: [u32; 4096] = [0; 4096];
+    let mut elements: [u32; 4096] = [0; 4096];
     let mut counts: [u32; 4096] = [0; 4096];
-    fill_shares(plan, j, q, &mut weights, &mut counts);
+    fill_shares(plan, j, q, &mut elements, &mut counts);
     let once = flatten(plan, k);
     let grid = flatten(once, j);
     let c = widest(grid, k);
     let flat = flatten(grid, c);
-    all_lines(grid, flat, c, k, v, &weights, &counts)
+    all_lines(grid, flat, c, k, v, &elements, &counts)
 }

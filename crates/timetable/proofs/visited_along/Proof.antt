@@ -14,15 +14,15 @@ use Rattle.timetable.proofs.visited_along.Tie as tie
 
 -- the lengths fit, once the first check has passed
 lengths : (c : tie.Else1) → leb (otherExtents (layoutOf (c .before .before .args .t1)) (c .before .before .args .k + 1)) 4294967295 ≡ true
-lengths c = sym (c .before .lengths-fit .ensures) ∙ not-false _ (c .if1 .left)
+lengths c = sym (c .before .others-fit .ensures) ∙ not-false _ (c .if1 .left)
 
-lengths-fit-requires : tie.Need-lengths-fit-requires
-lengths-fit-requires c κs = search needs
+others-fit-requires : tie.Need-others-fit-requires
+others-fit-requires c κs = search needs
 
 returns : tie.Need-returns
 returns c =
     let s = c .before .before in
-    along-11 (s .args .t1) (s .pre .0) (s .args .k) (s .pre .1) (s .args .up) (s .args .step) (s .args .processor) (sym (c .before .lengths-fit .ensures) ∙ not-true _ (c .if1 .taken))
+    along-11 (s .args .t1) (s .pre .0) (s .args .k) (s .pre .1) (s .args .up) (s .args .step) (s .args .processor) (sym (c .before .others-fit .ensures) ∙ not-true _ (c .if1 .taken))
 
 mul-if2 : tie.Need-mul-if2
 mul-if2 c = search needs
@@ -55,7 +55,7 @@ pub visited-along-spec : {M : Type 1} → statement M
 visited-along-spec =
     tie.close
     (tie.spec
-    lengths-fit-requires
+    others-fit-requires
     returns
     mul-if2
     element-copy-out-if2

@@ -15,10 +15,10 @@ use Rattle.timetable.proofs.slab_faces.all_lines.Statement.{statement}
 use Rattle.timetable.proofs.slab_faces.all_lines.Tie as tie
 
 abbrev Inv-loop : tie.InvT-loop
-Inv-loop grid flat c k v weights counts up count faces₀ tiles₀ r₀ faces tiles r = (r ≤ count) × (count ≡ product (layoutOf flat .cuts)) × (faces ≡ sum r (slabLine grid flat c k v weights)) × (tiles ≡ sum r (slabLine (oneEach grid) (oneEach flat) c k v counts))
+Inv-loop grid flat c k v elements counts up count faces₀ tiles₀ r₀ faces tiles r = (r ≤ count) × (count ≡ product (layoutOf flat .cuts)) × (faces ≡ sum r (slabLine grid flat c k v elements)) × (tiles ≡ sum r (slabLine (oneEach grid) (oneEach flat) c k v counts))
 
 abbrev μ-loop : tie.MeasureT-loop
-μ-loop grid flat c k v weights counts up count faces₀ tiles₀ r₀ faces tiles r = count - r
+μ-loop grid flat c k v elements counts up count faces₀ tiles₀ r₀ faces tiles r = count - r
 
 stride-along-requires : tie.Need-stride-along-requires Inv-loop μ-loop
 stride-along-requires c κs = (c .before .before .pre .0 .shape, c .before .before .pre .0 .along)
@@ -40,14 +40,14 @@ slab-line-requires c κs =
     let l = c .before .loop in
     let below : l .r < product (layoutOf (s .args .flat) .cuts) = omega (arith, l .inv .1) in (
       c .before .before .before .stride-along .ensures,
-      one-of-lines (s .args .grid) (s .args .flat) (s .args .c) (s .args .k) (s .args .v) (l .r) _ (s .args .weights .now) below (s .pre .0),
+      one-of-lines (s .args .grid) (s .args .flat) (s .args .c) (s .args .k) (s .args .v) (l .r) _ (s .args .elements .now) below (s .pre .0),
       one-of-lines (oneEach (s .args .grid)) (oneEach (s .args .flat)) (s .args .c) (s .args .k) (s .args .v) (l .r) _ (s .args .counts .now) below (s .pre .1),
     )
 
 add-faces : tie.Need-add-faces Inv-loop μ-loop
 add-faces c =
     let s = c .before .before .before .before .before .before .before .before in
-    let line = slabLine (s .args .grid) (s .args .flat) (s .args .c) (s .args .k) (s .args .v) (s .args .weights .now) in
+    let line = slabLine (s .args .grid) (s .args .flat) (s .args .c) (s .args .k) (s .args .v) (s .args .elements .now) in
     let count = slabLine (oneEach (s .args .grid)) (oneEach (s .args .flat)) (s .args .c) (s .args .k) (s .args .v) (s .args .counts .now) in
     let l = c .before .before .before .loop in
     record {
@@ -61,7 +61,7 @@ add-faces c =
 add-tiles : tie.Need-add-tiles Inv-loop μ-loop
 add-tiles c =
     let s = c .before .before .before .before .before .before .before .before .before in
-    let line = slabLine (s .args .grid) (s .args .flat) (s .args .c) (s .args .k) (s .args .v) (s .args .weights .now) in
+    let line = slabLine (s .args .grid) (s .args .flat) (s .args .c) (s .args .k) (s .args .v) (s .args .elements .now) in
     let count = slabLine (oneEach (s .args .grid)) (oneEach (s .args .flat)) (s .args .c) (s .args .k) (s .args .v) (s .args .counts .now) in
     let l = c .before .before .before .before .loop in
     record {
@@ -82,7 +82,7 @@ loop-less c = search needs
 loop-again : tie.Need-loop-again Inv-loop μ-loop
 loop-again c =
     let s = c .before .before .before .before .before .before .before .before .before in
-    let line = slabLine (s .args .grid) (s .args .flat) (s .args .c) (s .args .k) (s .args .v) (s .args .weights .now) in
+    let line = slabLine (s .args .grid) (s .args .flat) (s .args .c) (s .args .k) (s .args .v) (s .args .elements .now) in
     let count = slabLine (oneEach (s .args .grid)) (oneEach (s .args .flat)) (s .args .c) (s .args .k) (s .args .v) (s .args .counts .now) in
     let l = c .before .before .before .before .loop in (
       omega arith,
@@ -94,7 +94,7 @@ loop-again c =
 returns : tie.Need-returns Inv-loop μ-loop
 returns c =
     let s = c .before .before .before .before .before .before in
-    let line = slabLine (s .args .grid) (s .args .flat) (s .args .c) (s .args .k) (s .args .v) (s .args .weights .now) in
+    let line = slabLine (s .args .grid) (s .args .flat) (s .args .c) (s .args .k) (s .args .v) (s .args .elements .now) in
     let count = slabLine (oneEach (s .args .grid)) (oneEach (s .args .flat)) (s .args .c) (s .args .k) (s .args .v) (s .args .counts .now) in
     let l = c .before .loop in
     let all : l .r ≡ product (layoutOf (s .args .flat) .cuts) = omega (arith, l .inv .1) in

@@ -15,10 +15,10 @@ use Rattle.timetable.proofs.slab_faces.along.Statement.{statement}
 use Rattle.timetable.proofs.slab_faces.along.Tie as tie
 
 abbrev Inv-loop : tie.InvT-loop
-Inv-loop c up weights counts grid b at₀ first₀ faces₀ tiles₀ t₀ at first faces tiles t = (t ≤ b) × Walked grid c weights counts (at₀ .number) t at first faces tiles
+Inv-loop c up elements counts grid b at₀ first₀ faces₀ tiles₀ t₀ at first faces tiles t = (t ≤ b) × Walked grid c elements counts (at₀ .number) t at first faces tiles
 
 abbrev μ-loop : tie.MeasureT-loop
-μ-loop c up weights counts grid b at₀ first₀ faces₀ tiles₀ t₀ at first faces tiles t = b - t
+μ-loop c up elements counts grid b at₀ first₀ faces₀ tiles₀ t₀ at first faces tiles t = b - t
 
 mul-b : tie.Need-mul-b Inv-loop μ-loop
 mul-b c = search needs
@@ -36,7 +36,7 @@ start-requires : tie.Need-start-requires Inv-loop μ-loop
 start-requires c κs = let s = c .before .before .before .before in (s .pre .2 .shape .extent-high (s .args .c) (s .pre .2 .along), s .pre .2 .shape .cut-low (s .args .c) (s .pre .2 .along), s .pre .2 .shape .cut-high (s .args .c) (s .pre .2 .along), omega arith)
 
 loop-holds : tie.Need-loop-holds Inv-loop μ-loop
-loop-holds c = let s = c .before .before .before .before .before in (omega arith, walked-none (s .args .t1) (s .args .c) (s .args .weights .now) (s .args .counts .now) (s .args .from .number) (s .args .from) (c .start .result) (walk-none (s .args .t1) (s .pre .2 .shape) (s .args .c) (s .pre .2 .along) true (s .args .from .number) (s .args .from) (c .start .result) (s .pre .2 .processor) (s .pre .0) (c .start .ensures)))
+loop-holds c = let s = c .before .before .before .before .before in (omega arith, walked-none (s .args .t1) (s .args .c) (s .args .elements .now) (s .args .counts .now) (s .args .from .number) (s .args .from) (c .start .result) (walk-none (s .args .t1) (s .pre .2 .shape) (s .args .c) (s .pre .2 .along) true (s .args .from .number) (s .args .from) (c .start .result) (s .pre .2 .processor) (s .pre .0) (c .start .ensures)))
 
 mul-start-2 : tie.Need-mul-start-2 Inv-loop μ-loop
 mul-start-2 c = search needs
@@ -77,14 +77,14 @@ mul-faces-2 : tie.Need-mul-faces-2 Inv-loop μ-loop
 mul-faces-2 c =
     let fits = let s = c .before .before .before .before .before .before .before .before .before .before .before in
     let l = c .before .before .before .before .before .loop in
-    walked-faces-fit (s .args .t1) (s .pre .2 .shape) (s .args .c) (s .pre .2 .along) (s .args .weights .now) (s .args .counts .now) (s .args .from .number) (l .t) (omega arith) (l .at) (l .first) (l .faces) (l .tiles) (l .inv .1) (c .before .before .start2 .result) (c .before .before .start2 .ensures) (s .pre .2 .fits) in
+    walked-faces-fit (s .args .t1) (s .pre .2 .shape) (s .args .c) (s .pre .2 .along) (s .args .elements .now) (s .args .counts .now) (s .args .from .number) (l .t) (omega arith) (l .at) (l .first) (l .faces) (l .tiles) (l .inv .1) (c .before .before .start2 .result) (c .before .before .start2 .ensures) (s .pre .2 .fits) in
     record { fits = lt-of-le-of-lt (le-trans (le-add-left _ _) fits) (lit< tt) }
 
 add-faces : tie.Need-add-faces Inv-loop μ-loop
 add-faces c = record {
   fits = lt-of-le-of-lt (let s = c .before .before .before .before .before .before .before .before .before .before .before in
       let l = c .before .before .before .before .before .loop in
-      walked-faces-fit (s .args .t1) (s .pre .2 .shape) (s .args .c) (s .pre .2 .along) (s .args .weights .now) (s .args .counts .now) (s .args .from .number) (l .t) (omega arith) (l .at) (l .first) (l .faces) (l .tiles) (l .inv .1) (c .before .before .start2 .result) (c .before .before .start2 .ensures) (s .pre .2 .fits)) (lit< tt);
+      walked-faces-fit (s .args .t1) (s .pre .2 .shape) (s .args .c) (s .pre .2 .along) (s .args .elements .now) (s .args .counts .now) (s .args .from .number) (l .t) (omega arith) (l .at) (l .first) (l .faces) (l .tiles) (l .inv .1) (c .before .before .start2 .result) (c .before .before .start2 .ensures) (s .pre .2 .fits)) (lit< tt);
 }
 
 mul-tiles : tie.Need-mul-tiles Inv-loop μ-loop
@@ -106,7 +106,7 @@ unfolding oneEach
 add-tiles c = record {
   fits = lt-of-le-of-lt (let s = c .before .before .before .before .before .before .before .before .before .before .before .before in
       let l = c .before .before .before .before .before .before .loop in
-      walked-tiles-fit (s .args .t1) (s .pre .2 .shape) (s .args .c) (s .pre .2 .along) (s .args .weights .now) (s .args .counts .now) (s .args .from .number) (l .t) (omega arith) (l .at) (l .first) (l .faces) (l .tiles) (l .inv .1) (c .before .before .before .start2 .result) (c .before .before .before .start2 .ensures) (s .pre .3 .fits)) (lit< tt);
+      walked-tiles-fit (s .args .t1) (s .pre .2 .shape) (s .args .c) (s .pre .2 .along) (s .args .elements .now) (s .args .counts .now) (s .args .from .number) (l .t) (omega arith) (l .at) (l .first) (l .faces) (l .tiles) (l .inv .1) (c .before .before .before .start2 .result) (c .before .before .before .start2 .ensures) (s .pre .3 .fits)) (lit< tt);
 }
 
 next-requires : tie.Need-next-requires Inv-loop μ-loop
@@ -126,7 +126,7 @@ loop-again c = (
   omega arith,
   let s = c .before .before .before .before .before .before .before .before .before .before .before .before .before in
       let l = c .before .before .before .before .before .before .before .loop in
-      walked-more (s .args .t1) (s .pre .2 .shape) (s .args .c) (s .pre .2 .along) (s .args .weights .now) (s .args .counts .now) (s .args .from .number) (l .t) (omega arith) (l .at) (l .first) (l .faces) (l .tiles) (l .inv .1) (c .before .before .before .before .start2 .result) (c .before .before .before .before .start2 .ensures) (s .args .up) (c .next .result) (s .pre .1) (c .next .ensures),
+      walked-more (s .args .t1) (s .pre .2 .shape) (s .args .c) (s .pre .2 .along) (s .args .elements .now) (s .args .counts .now) (s .args .from .number) (l .t) (omega arith) (l .at) (l .first) (l .faces) (l .tiles) (l .inv .1) (c .before .before .before .before .start2 .result) (c .before .before .before .before .start2 .ensures) (s .args .up) (c .next .result) (s .pre .1) (c .next .ensures),
 )
 
 returns : tie.Need-returns Inv-loop μ-loop
@@ -134,7 +134,7 @@ returns c =
     let s = c .before .before .before .before .before .before .before in
     let l = c .before .loop in
     let all : l .t ≡ getD (s .args .t1 .cuts) (s .args .c) 0 = omega arith in (
-      l .inv .1 .faces-are ∙ ap (λ (n : ℕ). lineOf (s .args .t1) (s .args .c) (s .args .weights .now) n (s .args .from .number)) all,
+      l .inv .1 .faces-are ∙ ap (λ (n : ℕ). lineOf (s .args .t1) (s .args .c) (s .args .elements .now) n (s .args .from .number)) all,
       l .inv .1 .tiles-are ∙ ap (λ (n : ℕ). lineOf (oneEach (s .args .t1)) (s .args .c) (s .args .counts .now) n (s .args .from .number)) all,
     )
 

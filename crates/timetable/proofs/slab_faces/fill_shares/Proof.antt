@@ -5,18 +5,18 @@ use Prim.Native.Nat.{ℕ, _-_, _≤_, _<_}
 use native.Mathlib.Omega.{arith}
 use lib.ListN.{getD}
 use Rattle.walks.proofs.Walking.{next-asked}
-use Rattle.timetable.specs.Rows.{Weighed, oneEach}
-use Rattle.timetable.proofs.Tables.{Sharing, weight-asked, count-asked, sharing-more}
+use Rattle.timetable.specs.Rows.{RowTable, oneEach}
+use Rattle.timetable.proofs.Tables.{Sharing, elements-asked, count-asked, sharing-more}
 use Rattle.timetable.proofs.Walks.{walk-none, walk-rises}
 use borrow.Author.Needs.{needs}
 use Rattle.timetable.proofs.slab_faces.fill_shares.Statement.{statement}
 use Rattle.timetable.proofs.slab_faces.fill_shares.Tie as tie
 
 abbrev Inv-loop : tie.InvT-loop
-Inv-loop j q weights₀ counts₀ plan b down at₀ first₀ t₀ weights counts at first t = (t ≤ b) × Sharing plan j q t weights counts at first
+Inv-loop j q elements₀ counts₀ plan b down at₀ first₀ t₀ elements counts at first t = (t ≤ b) × Sharing plan j q t elements counts at first
 
 abbrev μ-loop : tie.MeasureT-loop
-μ-loop j q weights₀ counts₀ plan b down at₀ first₀ t₀ weights counts at first t = b - t
+μ-loop j q elements₀ counts₀ plan b down at₀ first₀ t₀ elements counts at first t = b - t
 
 mul-b : tie.Need-mul-b Inv-loop μ-loop
 mul-b c = search needs
@@ -42,7 +42,7 @@ start-requires c κs = let s = c .before .before .before .before .before .before
 loop-holds : tie.Need-loop-holds Inv-loop μ-loop
 loop-holds c =
     let s = c .before .before .before .before .before .before .before in
-    (omega arith, record { walk = walk-none (s .args .t1) (s .pre .0) (s .args .j) (s .pre .1) false (s .args .q) _ _ (s .pre .2) (c .before .before .with-coordinates .ensures) (c .start .ensures); weighed = s .pre .3; counted = s .pre .4 })
+    (omega arith, record { walk = walk-none (s .args .t1) (s .pre .0) (s .args .j) (s .pre .1) false (s .args .q) _ _ (s .pre .2) (c .before .before .with-coordinates .ensures) (c .start .ensures); elements-table = s .pre .3; counts-table = s .pre .4 })
 
 mul-start-2 : tie.Need-mul-start-2 Inv-loop μ-loop
 mul-start-2 c = search needs
@@ -69,13 +69,13 @@ add-at-requires : tie.Need-add-at-requires Inv-loop μ-loop
 add-at-requires c κs =
     let s = c .before .before .before .before .before .before .before .before .before .before .before .before .before in
     let l = c .before .before .before .before .before .loop in
-    weight-asked (s .args .t1) (s .pre .0) (s .args .j) (s .pre .1) (s .args .q) (l .t) (omega arith) (l .weights) (l .counts) (l .at) (l .first) (l .inv .1) (c .before .before .start2 .result) (c .before .before .start2 .ensures)
+    elements-asked (s .args .t1) (s .pre .0) (s .args .j) (s .pre .1) (s .args .q) (l .t) (omega arith) (l .elements) (l .counts) (l .at) (l .first) (l .inv .1) (c .before .before .start2 .result) (c .before .before .start2 .ensures)
 
 add-at-requires-2 : tie.Need-add-at-requires-2 Inv-loop μ-loop
 add-at-requires-2 c κs =
     let s = c .before .before .before .before .before .before .before .before .before .before .before .before .before .before .before .before .before in
     let l = c .before .before .before .before .before .before .before .before .before .loop in
-    count-asked (s .args .t1) (s .pre .0) (s .args .j) (s .pre .1) (s .args .q) (l .t) (omega arith) (l .weights) (l .counts) (l .at) (l .first) (l .inv .1) (c .before .before .before .before .before .before .start2 .result) (c .before .before .before .before .before .before .start2 .ensures)
+    count-asked (s .args .t1) (s .pre .0) (s .args .j) (s .pre .1) (s .args .q) (l .t) (omega arith) (l .elements) (l .counts) (l .at) (l .first) (l .inv .1) (c .before .before .before .before .before .before .start2 .result) (c .before .before .before .before .before .before .start2 .ensures)
 
 next-requires : tie.Need-next-requires Inv-loop μ-loop
 next-requires c κs =
@@ -97,22 +97,22 @@ loop-again c =
     let start = c .before .before .before .before .before .before .before .before .before .before .start2 in (
       omega (arith, more),
       rw (c .before .before .before .before .before .before .before .add-at .ensures, c .before .before .before .add-at2 .ensures)
-          (sharing-more (s .args .t1) (s .pre .0) (s .args .j) (s .pre .1) (s .args .q) (l .t) more (l .weights) (l .counts) (l .at) (l .first) (l .inv .1) (start .result) (start .ensures) _ (c .next .result) (c .before .before .before .before .before .before .before .before .before .before .before .before .before .before .before .before .before .stride-along .ensures) (c .next .ensures)),
+          (sharing-more (s .args .t1) (s .pre .0) (s .args .j) (s .pre .1) (s .args .q) (l .t) more (l .elements) (l .counts) (l .at) (l .first) (l .inv .1) (start .result) (start .ensures) _ (c .next .result) (c .before .before .before .before .before .before .before .before .before .before .before .before .before .before .before .before .before .stride-along .ensures) (c .next .ensures)),
     )
 
 same-length : tie.Need-same-length Inv-loop μ-loop
-same-length c = let s = c .before .before .before .before .before .before .before .before .before in c .before .loop .inv .1 .weighed .places ∙ sym (s .pre .3 .places)
+same-length c = let s = c .before .before .before .before .before .before .before .before .before in c .before .loop .inv .1 .elements-table .places ∙ sym (s .pre .3 .places)
 
 same-length-2 : tie.Need-same-length-2 Inv-loop μ-loop
-same-length-2 c = let s = c .before .before .before .before .before .before .before .before .before in c .before .loop .inv .1 .counted .places ∙ sym (s .pre .4 .places)
+same-length-2 c = let s = c .before .before .before .before .before .before .before .before .before in c .before .loop .inv .1 .counts-table .places ∙ sym (s .pre .4 .places)
 
 returns : tie.Need-returns Inv-loop μ-loop
 returns c =
     let s = c .before .before .before .before .before .before .before .before .before in
     let l = c .before .loop in
     let all : l .t ≡ getD (s .args .t1 .cuts) (s .args .j) 0 = omega arith in (
-      subst (λ (n : ℕ). Weighed (s .args .t1) (s .args .j) (s .args .q) n (l .weights)) all (l .inv .1 .weighed),
-      subst (λ (n : ℕ). Weighed (oneEach (s .args .t1)) (s .args .j) (s .args .q) n (l .counts)) all (l .inv .1 .counted),
+      subst (λ (n : ℕ). RowTable (s .args .t1) (s .args .j) (s .args .q) n (l .elements)) all (l .inv .1 .elements-table),
+      subst (λ (n : ℕ). RowTable (oneEach (s .args .t1)) (s .args .j) (s .args .q) n (l .counts)) all (l .inv .1 .counts-table),
     )
 
 pub fill-shares-spec : {M : Type 1} → statement M

@@ -50,7 +50,7 @@ along-requires c κs =
     let below : from .result .number < s .args .grid .p = subst⁻¹ (λ (n : ℕ). n < s .args .grid .p) (from .ensures .number-is) (owner .ensures .1) in (
       subst⁻¹ (λ (n : ℕ). IsProcessor (s .args .grid) n (from .result)) (from .ensures .number-is) (from .ensures),
       s .pre .0,
-      line-asked (s .args .flat) (s .pre .1 .flat-shape) (s .args .r) (placed .result) long (placed .ensures) (s .args .k) (s .args .v) (s .args .grid) (s .pre .1 .same-d) (s .pre .1 .dimension) (s .args .c) (from .result .number) (from .ensures .number-is ∙ owner .ensures .0) (s .args .weights .now) (s .pre .1) below,
+      line-asked (s .args .flat) (s .pre .1 .flat-shape) (s .args .r) (placed .result) long (placed .ensures) (s .args .k) (s .args .v) (s .args .grid) (s .pre .1 .same-d) (s .pre .1 .dimension) (s .args .c) (from .result .number) (from .ensures .number-is ∙ owner .ensures .0) (s .args .elements .now) (s .pre .1) below,
       count-asked (s .args .flat) (s .pre .1 .flat-shape) (s .args .r) (placed .result) long (placed .ensures) (s .args .k) (s .args .v) (s .args .grid) (s .pre .1 .same-d) (s .pre .1 .dimension) (s .args .c) (from .result .number) (from .ensures .number-is ∙ owner .ensures .0) (s .args .counts .now) (s .pre .2) below,
     )
 
@@ -64,7 +64,7 @@ mul-t18 c =
     record {
       fits =
           lt-of-le-of-lt
-          (subst⁻¹ (λ (n : ℕ). n ≤ 4294967295) (line-is (s .args .flat) (s .pre .1 .flat-shape) (s .args .r) (placed .result) long (placed .ensures) (s .args .k) (s .args .v) (s .args .grid) (s .pre .1 .same-d) (s .pre .1 .dimension) (s .args .c) (from .result .number) (from .ensures .number-is ∙ owner .ensures .0) (s .args .weights .now) _ _ (c .before .before .before .before .volume .ensures) (c .before .along .ensures .0)) (s .pre .1 .fits))
+          (subst⁻¹ (λ (n : ℕ). n ≤ 4294967295) (line-is (s .args .flat) (s .pre .1 .flat-shape) (s .args .r) (placed .result) long (placed .ensures) (s .args .k) (s .args .v) (s .args .grid) (s .pre .1 .same-d) (s .pre .1 .dimension) (s .args .c) (from .result .number) (from .ensures .number-is ∙ owner .ensures .0) (s .args .elements .now) _ _ (c .before .before .before .before .volume .ensures) (c .before .along .ensures .0)) (s .pre .1 .fits))
           (lit< tt);
     }
 
@@ -75,7 +75,7 @@ returns c =
     let from = c .before .before .with-coordinates in
     let owner = c .before .before .before .owner in
     let long : length (placed .result) ≡ 5 = search needs in (
-      line-is (s .args .flat) (s .pre .1 .flat-shape) (s .args .r) (placed .result) long (placed .ensures) (s .args .k) (s .args .v) (s .args .grid) (s .pre .1 .same-d) (s .pre .1 .dimension) (s .args .c) (from .result .number) (from .ensures .number-is ∙ owner .ensures .0) (s .args .weights .now) _ _ (c .before .before .before .before .volume .ensures) (c .before .along .ensures .0),
+      line-is (s .args .flat) (s .pre .1 .flat-shape) (s .args .r) (placed .result) long (placed .ensures) (s .args .k) (s .args .v) (s .args .grid) (s .pre .1 .same-d) (s .pre .1 .dimension) (s .args .c) (from .result .number) (from .ensures .number-is ∙ owner .ensures .0) (s .args .elements .now) _ _ (c .before .before .before .before .volume .ensures) (c .before .along .ensures .0),
       count-is (s .args .flat) (s .pre .1 .flat-shape) (s .args .r) (placed .result) long (placed .ensures) (s .args .k) (s .args .v) (s .args .grid) (s .pre .1 .same-d) (s .pre .1 .dimension) (s .args .c) (from .result .number) (from .ensures .number-is ∙ owner .ensures .0) (s .args .counts .now) _ (c .before .along .ensures .1),
     )
 

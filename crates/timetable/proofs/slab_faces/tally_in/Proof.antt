@@ -2,7 +2,7 @@
 use mathlib.Core.Path.{_∙_}
 use native.Mathlib.Omega.{arith}
 use Rattle.timetable.specs.Rows.{oneEach}
-use Rattle.timetable.proofs.Tables.{weighed-none}
+use Rattle.timetable.proofs.Tables.{table-none}
 use Rattle.timetable.proofs.Tallies.{flat-shape, tally-asked, tally-faces, count-tally-asked, tally-tiles}
 use borrow.Author.Needs.{needs}
 use Rattle.timetable.proofs.slab_faces.tally_in.Statement.{statement}
@@ -21,7 +21,7 @@ fill-shares-requires : tie.Need-fill-shares-requires
 fill-shares-requires c κs =
     let s = c .before .before .before in
     let j = c .before .before .widest in
-    (s .pre .0, j .ensures .0, s .pre .3, weighed-none (s .args .plan) (j .result) (s .args .q), weighed-none (oneEach (s .args .plan)) (j .result) (s .args .q))
+    (s .pre .0, j .ensures .0, s .pre .3, table-none (s .args .plan) (j .result) (s .args .q), table-none (oneEach (s .args .plan)) (j .result) (s .args .q))
 
 flatten-requires : tie.Need-flatten-requires
 flatten-requires c κs = search needs

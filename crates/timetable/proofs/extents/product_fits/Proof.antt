@@ -9,8 +9,8 @@ use lib.ListN.{take}
 use Rattle.numbers.specs.Products.{product}
 use Rattle.layout.proofs.Lists.{product-add-one, product-front}
 use borrow.Author.Needs.{needs}
-use Rattle.timetable.proofs.lengths.product_fits.Statement.{statement}
-use Rattle.timetable.proofs.lengths.product_fits.Tie as tie
+use Rattle.timetable.proofs.extents.product_fits.Statement.{statement}
+use Rattle.timetable.proofs.extents.product_fits.Tie as tie
 
 abbrev Inv-loop : tie.InvT-loop
 Inv-loop d numbers all₀ i₀ all i = (i ≤ d) × (all ≡ product (take i numbers)) × (all ≤ 4294967295)

@@ -1,4 +1,4 @@
-// Whether every message length of a sweep fits 32 bits: refusal 11 is for the others.
+// Whether the product of the other extents fits 32 bits, so that every message length does: refusal 11 is for the others.
 use layout::Plan;
 ghost use mathlib.Core.Path.{_≡_};
 ghost use Prim.Native.Nat.{_+_, _<_};
@@ -10,6 +10,7 @@ ghost use Rattle.layout.specs.Shaped.{Shaped};
 ghost use Rattle.timetable.specs.Timetable.{otherExtents};
 ghost use Rattle.timetable.specs.Rows.{ExtentRange};
 
+// The number, in 64 bits.
 fn wide(number: u32) -> u64
     ensures { λ r. ⌜ r ≡ number ⌝ }
 {
@@ -33,7 +34,7 @@ fn product_fits(d: usize, numbers: [u32; 5]) -> bool
 }
 
 // Whether the product of the other extents than that of place k is at most 4,294,967,295.
-pub fn lengths_fit(plan: Plan, k: usize) -> bool
+pub fn others_fit(plan: Plan, k: usize) -> bool
     requires { ⌜ (Shaped plan) × (k < plan .d) ⌝ }
     ensures { λ r. ⌜ r ≡ leb (otherExtents (layoutOf plan) (k + 1)) 4294967295 ⌝ }
 {
