@@ -3,21 +3,12 @@ use mathlib.Core.Path.{_≡_, refl, ap, _∙_}
 use mathlib.Core.List.{List, [], _∷_}
 use Prim.Native.Nat.{ℕ, _+_, _*_}
 use lib.ListN.{length}
-use lib.Seq.{sets}
 use borrow.Author.Tests.{eq-eqb, ne-eqb}
 use Rattle.multipartition.specs.Answers.{Answer, answered, refused, checked}
 use Rattle.chains.specs.declared.Chained.{Chained}
 use Rattle.chains.specs.Told.{toldChained, afterwards, Answers}
-use Rattle.solver_link.proofs.Parts.{sets-all}
-use Rattle.solver_link.specs.Link.{planPlaces, planListCheck, andThen, into, codeOf, heldBy, Linked}
-
-pub linked-into : (lent numbers after : List ℕ) → length lent ≡ length numbers → after ≡ sets lent 0 numbers
-    → Linked (into (length lent) numbers) lent 0 after
-linked-into lent numbers after e stored = rw (eq-eqb _ _ e) (record { returned = refl; held = stored ∙ sets-all lent numbers e })
-
--- "an answer list of a wrong length is a 9"
-pub linked-length : (lent numbers : List ℕ) → (length lent ≡ length numbers → ⊥) → Linked (into (length lent) numbers) lent 9 lent
-linked-length lent numbers e = rw (ne-eqb _ _ e) (record { returned = refl; held = refl })
+use Rattle.link_lists.specs.Lists.{planPlaces, codeOf, heldBy, Linked}
+use Rattle.solver_link.specs.Link.{planListCheck, andThen}
 
 -- "a plan list of a wrong length is a 6"
 pub linked-list-length : {A : Type 0} (list : List ℕ) (asked : Answer A) (lent : A) → (length list ≡ planPlaces → ⊥)

@@ -14,8 +14,9 @@ use Rattle.layout.proofs.Plans.{layout-of-plan}
 use Rattle.planner.specs.Planned.{plannedOf}
 use Rattle.planner.proofs.Answers.{Numbered, numbered-plan, plan-sized}
 use Rattle.planner.specs.declared.Planned.{Planned}
-use Rattle.solver_link.specs.Link.{planIn, listOfPlan, andThen, into, planLink, Linked}
-use Rattle.solver_link.proofs.Plans.{plan-in-list, arrays-of-layout}
+use Rattle.link_lists.specs.Lists.{planIn, listOfPlan, into, Linked}
+use Rattle.link_lists.proofs.Plans.{plan-in-list, arrays-of-layout}
+use Rattle.solver_link.specs.Link.{andThen, planLink}
 
 -- what the call returns for what the planner answers, whose number 0 tells a plan from a refusal
 module _ (planned : Planned) (lent : List ℕ) where

@@ -1,7 +1,5 @@
 // The link for a solver in C: the proved calls over plain numbers and lists of 32-bit numbers. Each call returns 0, or a refusal's number with its
 // place in the upper 32 bits.
-mod lists; // lists.rt: plans and answers as lists
-
 use chains::Chained;
 use questions::Neighbour;
 use questions::Owner;
@@ -15,7 +13,8 @@ use tiles::slabs::Elements;
 use tiles::slabs::SlabNumber;
 use timetable::Visited;
 ghost use lib.ListN.{length};
-ghost use Rattle.solver_link.specs.Link.{planLink, ownerLink, neighbourLink, slabLink, slabOfLink, tileNumberLink, tilePositionLink, stepLink, timetableLink, chainsLink, Linked};
+ghost use Rattle.link_lists.specs.Lists.{Linked};
+ghost use Rattle.solver_link.specs.Link.{planLink, ownerLink, neighbourLink, slabLink, slabOfLink, tileNumberLink, tilePositionLink, stepLink, timetableLink, chainsLink};
 
 // Plans a job: the answer list gets the plan list.
 #[no_mangle]
@@ -30,10 +29,10 @@ pub extern "C" fn multipartition_plan(
 {
     let planned = planner::plan_job(processors, dimensions as usize, extents, weights);
     if planned.number != 0 {
-        return lists::joined(planned.number, planned.place);
+        return link_lists::joined(planned.number, planned.place);
     }
     let found = planned.plan;
-    lists::put_plan(plan, found)
+    link_lists::put_plan(plan, found)
 }
 
 // Who owns a position: the answer list gets the processor.
@@ -45,13 +44,13 @@ pub extern "C" fn multipartition_owner<'a>(
 ) -> u64
     ensures { λ r. ⌜ Linked (ownerLink (now (plan .entry)) (now (position .entry)) (length (now (answer .entry)))) (now (answer .entry)) r (now (answer .exit)) ⌝ }
 {
-    if plan.len() != lists::PLAN_LENGTH {
+    if plan.len() != link_lists::PLAN_LENGTH {
         return 6;
     }
-    let owner = lists::owner_in(plan, position);
+    let owner = link_lists::owner_in(plan, position);
     match owner {
-        Owner::Processor(q) => lists::put_one(answer, q),
-        Owner::Refused { number, place } => lists::joined(number, place),
+        Owner::Processor(q) => link_lists::put_one(answer, q),
+        Owner::Refused { number, place } => link_lists::joined(number, place),
     }
 }
 
@@ -66,14 +65,14 @@ pub extern "C" fn multipartition_neighbour(
 ) -> u64
     ensures { λ r. ⌜ Linked (neighbourLink (now (plan .entry)) processor dimension up (length (now (answer .entry)))) (now (answer .entry)) r (now (answer .exit)) ⌝ }
 {
-    if plan.len() != lists::PLAN_LENGTH {
+    if plan.len() != link_lists::PLAN_LENGTH {
         return 6;
     }
-    let neighbour = lists::neighbour_in(plan, processor, dimension as usize, up != 0);
+    let neighbour = link_lists::neighbour_in(plan, processor, dimension as usize, up != 0);
     match neighbour {
-        Neighbour::Processor(q) => lists::put_two(answer, 1, q),
-        Neighbour::Nobody => lists::put_two(answer, 0, 0),
-        Neighbour::Refused { number, place } => lists::joined(number, place),
+        Neighbour::Processor(q) => link_lists::put_two(answer, 1, q),
+        Neighbour::Nobody => link_lists::put_two(answer, 0, 0),
+        Neighbour::Refused { number, place } => link_lists::joined(number, place),
     }
 }
 
@@ -87,13 +86,13 @@ pub extern "C" fn multipartition_slab(
 ) -> u64
     ensures { λ r. ⌜ Linked (slabLink (now (plan .entry)) dimension slab (length (now (answer .entry)))) (now (answer .entry)) r (now (answer .exit)) ⌝ }
 {
-    if plan.len() != lists::PLAN_LENGTH {
+    if plan.len() != link_lists::PLAN_LENGTH {
         return 6;
     }
-    let elements = slabs::slab_elements(lists::plan_in(plan), dimension as usize, slab);
+    let elements = slabs::slab_elements(link_lists::plan_in(plan), dimension as usize, slab);
     match elements {
-        Elements::Range { first, after } => lists::put_two(answer, first, after),
-        Elements::Refused { number, place } => lists::joined(number, place),
+        Elements::Range { first, after } => link_lists::put_two(answer, first, after),
+        Elements::Refused { number, place } => link_lists::joined(number, place),
     }
 }
 
@@ -107,13 +106,13 @@ pub extern "C" fn multipartition_slab_of(
 ) -> u64
     ensures { λ r. ⌜ Linked (slabOfLink (now (plan .entry)) dimension element (length (now (answer .entry)))) (now (answer .entry)) r (now (answer .exit)) ⌝ }
 {
-    if plan.len() != lists::PLAN_LENGTH {
+    if plan.len() != link_lists::PLAN_LENGTH {
         return 6;
     }
-    let slab = slabs::slab_of(lists::plan_in(plan), dimension as usize, element);
+    let slab = slabs::slab_of(link_lists::plan_in(plan), dimension as usize, element);
     match slab {
-        SlabNumber::Slab(s) => lists::put_one(answer, s),
-        SlabNumber::Refused { number, place } => lists::joined(number, place),
+        SlabNumber::Slab(s) => link_lists::put_one(answer, s),
+        SlabNumber::Refused { number, place } => link_lists::joined(number, place),
     }
 }
 
@@ -126,13 +125,13 @@ pub extern "C" fn multipartition_tile_number(
 ) -> u64
     ensures { λ r. ⌜ Linked (tileNumberLink (now (plan .entry)) (now (position .entry)) (length (now (answer .entry)))) (now (answer .entry)) r (now (answer .exit)) ⌝ }
 {
-    if plan.len() != lists::PLAN_LENGTH {
+    if plan.len() != link_lists::PLAN_LENGTH {
         return 6;
     }
-    let tile = lists::position_in(position).number(lists::plan_in(plan));
+    let tile = link_lists::position_in(position).number(link_lists::plan_in(plan));
     match tile {
-        TileNumber::Tile(t) => lists::put_one(answer, t),
-        TileNumber::Refused { number, place } => lists::joined(number, place),
+        TileNumber::Tile(t) => link_lists::put_one(answer, t),
+        TileNumber::Refused { number, place } => link_lists::joined(number, place),
     }
 }
 
@@ -141,15 +140,15 @@ pub extern "C" fn multipartition_tile_number(
 pub extern "C" fn multipartition_tile_position(plan: &[u32], tile: u32, answer: &mut [u32]) -> u64
     ensures { λ r. ⌜ Linked (tilePositionLink (now (plan .entry)) tile (length (now (answer .entry)))) (now (answer .entry)) r (now (answer .exit)) ⌝ }
 {
-    if plan.len() != lists::PLAN_LENGTH {
+    if plan.len() != link_lists::PLAN_LENGTH {
         return 6;
     }
-    let located = positions::position_of(lists::plan_in(plan), tile);
+    let located = positions::position_of(link_lists::plan_in(plan), tile);
     let lookup = located.lookup;
     let position = located.position;
     match lookup {
-        Lookup::Found => lists::put_position(answer, position),
-        Lookup::Refused { number, place } => lists::joined(number, place),
+        Lookup::Found => link_lists::put_position(answer, position),
+        Lookup::Refused { number, place } => link_lists::joined(number, place),
     }
 }
 
@@ -164,11 +163,11 @@ pub extern "C" fn multipartition_step(
 ) -> u64
     ensures { λ r. ⌜ Linked (stepLink (now (plan .entry)) (now (position .entry)) dimension up (length (now (answer .entry)))) (now (answer .entry)) r (now (answer .exit)) ⌝ }
 {
-    if plan.len() != lists::PLAN_LENGTH {
+    if plan.len() != link_lists::PLAN_LENGTH {
         return 6;
     }
-    let moved = lists::position_in(position).step(
-        lists::plan_in(plan),
+    let moved = link_lists::position_in(position).step(
+        link_lists::plan_in(plan),
         dimension as usize,
         up != 0,
     );
@@ -179,9 +178,9 @@ pub extern "C" fn multipartition_step(
         at: [0; 5],
     };
     match step {
-        Step::Inside => lists::put_step(answer, 1, next),
-        Step::Edge => lists::put_step(answer, 0, edge),
-        Step::Refused { number, place } => lists::joined(number, place),
+        Step::Inside => link_lists::put_step(answer, 1, next),
+        Step::Edge => link_lists::put_step(answer, 0, edge),
+        Step::Refused { number, place } => link_lists::joined(number, place),
     }
 }
 
@@ -198,19 +197,19 @@ pub extern "C" fn multipartition_timetable(
 ) -> u64
     ensures { λ r. ⌜ Linked (timetableLink (now (plan .entry)) dimension up step processor (length (now (answer .entry)))) (now (answer .entry)) r (now (answer .exit)) ⌝ }
 {
-    if plan.len() != lists::PLAN_LENGTH {
+    if plan.len() != link_lists::PLAN_LENGTH {
         return 6;
     }
     let visited = timetable::visit_at(
-        lists::plan_in(plan),
+        link_lists::plan_in(plan),
         dimension as usize,
         up != 0,
         step,
         processor,
     );
     match visited {
-        Visited::At(visit) => lists::put_visit(answer, visit),
-        Visited::Refused { number, place } => lists::joined(number, place),
+        Visited::At(visit) => link_lists::put_visit(answer, visit),
+        Visited::Refused { number, place } => link_lists::joined(number, place),
     }
 }
 
@@ -219,12 +218,12 @@ pub extern "C" fn multipartition_timetable(
 pub extern "C" fn multipartition_chains(plan: &[u32], heads: &mut [u32], nexts: &mut [u32]) -> u64
     ensures { λ r. ⌜ Linked (chainsLink (now (plan .entry)) (length (now (heads .entry))) (length (now (nexts .entry)))) (now (heads .entry), now (nexts .entry)) r (now (heads .exit), now (nexts .exit)) ⌝ }
 {
-    if plan.len() != lists::PLAN_LENGTH {
+    if plan.len() != link_lists::PLAN_LENGTH {
         return 6;
     }
-    let chained = chains::chains(lists::plan_in(plan), heads, nexts);
+    let chained = chains::chains(link_lists::plan_in(plan), heads, nexts);
     match chained {
         Chained::Done => 0,
-        Chained::Refused { number, place } => lists::joined(number, place),
+        Chained::Refused { number, place } => link_lists::joined(number, place),
     }
 }

@@ -3,7 +3,8 @@ use borrow.Author.Needs.{needs}
 use mathlib.Core.Path.{sym, ap, _∙_}
 use Rattle.chains.specs.declared.Chained.{Chained}
 use Rattle.chains.specs.Told.{toldChained}
-use Rattle.solver_link.specs.Link.{codeOf, chainsLink}
+use Rattle.link_lists.specs.Lists.{codeOf}
+use Rattle.solver_link.specs.Link.{chainsLink}
 use Rattle.solver_link.proofs.Answers.{linked-list-length, linked-chains}
 use Rattle.solver_link.proofs.multipartition_chains.Statement.{statement}
 use Rattle.solver_link.proofs.multipartition_chains.Tie as tie

@@ -7,9 +7,10 @@ use lib.Dec.{eqb}
 use lib.ListN.{length}
 use Rattle.tiles.specs.Positions.{coordinates}
 use Rattle.tiles.proofs.Coordinates.{length-coordinates}
-use Rattle.solver_link.specs.Link.{planIn, stepLink}
+use Rattle.link_lists.specs.Lists.{planIn}
+use Rattle.link_lists.proofs.Positions.{coordinates-zero, step-told, step-few, step-next-few}
+use Rattle.solver_link.specs.Link.{stepLink}
 use Rattle.solver_link.proofs.Answers.{linked-list-length, linked-answered, linked-refused}
-use Rattle.solver_link.proofs.Positions.{coordinates-zero, step-told, step-few, step-next-few}
 use Rattle.solver_link.proofs.multipartition_step.Statement.{statement}
 use Rattle.solver_link.proofs.multipartition_step.Tie as tie
 

@@ -2,9 +2,10 @@
 use borrow.Author.Needs.{needs}
 use mathlib.Core.Path.{sym, ap, _∙_}
 use Rattle.tiles.specs.Answers.{toldNumber}
-use Rattle.solver_link.specs.Link.{planIn, tileNumberLink}
+use Rattle.link_lists.specs.Lists.{planIn}
+use Rattle.link_lists.proofs.Positions.{number-with}
+use Rattle.solver_link.specs.Link.{tileNumberLink}
 use Rattle.solver_link.proofs.Answers.{linked-list-length, linked-answered, linked-refused}
-use Rattle.solver_link.proofs.Positions.{number-with}
 use Rattle.solver_link.proofs.multipartition_tile_number.Statement.{statement}
 use Rattle.solver_link.proofs.multipartition_tile_number.Tie as tie
 

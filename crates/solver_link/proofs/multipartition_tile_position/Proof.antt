@@ -6,9 +6,10 @@ use Rattle.tiles.specs.declared.positions.Lookup.{Lookup}
 use Rattle.tiles.specs.Positions.{coordinates}
 use Rattle.tiles.specs.Answers.{toldLookup}
 use Rattle.tiles.proofs.Coordinates.{length-coordinates}
-use Rattle.solver_link.specs.Link.{planIn, tilePositionLink}
+use Rattle.link_lists.specs.Lists.{planIn}
+use Rattle.link_lists.proofs.Positions.{position-few}
+use Rattle.solver_link.specs.Link.{tilePositionLink}
 use Rattle.solver_link.proofs.Answers.{linked-list-length, linked-answered, linked-refused}
-use Rattle.solver_link.proofs.Positions.{position-few}
 use Rattle.solver_link.proofs.multipartition_tile_position.Statement.{statement}
 use Rattle.solver_link.proofs.multipartition_tile_position.Tie as tie
 

@@ -1,0 +1,5 @@
+pub mod Parts
+pub mod Plans
+pub mod Answers
+pub mod Positions
+pub mod Visits

@@ -1,0 +1,115 @@
+-- `link_lists::put_plan` meets its contract. Assumes nothing.
+use borrow.Author.Needs.{needs}
+use mathlib.Core.Path.{sym, _∙_}
+use native.Mathlib.Omega.{arith}
+use Rattle.link_lists.specs.Lists.{listOfPlan}
+use Rattle.link_lists.proofs.Answers.{linked-into, linked-length}
+use Rattle.layout.proofs.Places.{Arrays}
+use Rattle.link_lists.proofs.Plans.{length-list, sets-parts}
+use Rattle.link_lists.proofs.put_plan.Statement.{statement}
+use Rattle.link_lists.proofs.put_plan.Tie as tie
+
+returns : tie.Need-returns
+returns c =
+    let a = c .before .before .args in
+    let arrays : Arrays (a .t2) = search needs in
+    linked-length (a .list .now) (listOfPlan (a .t2)) (λ e. c .if1 .taken (e ∙ length-list (a .t2) arrays))
+
+cast-d : tie.Need-cast-d
+cast-d c = search needs
+
+cast-low : tie.Need-cast-low
+cast-low c = search needs
+
+cast-high : tie.Need-cast-high
+cast-high c = search needs
+
+slice-aggregate-put-part : tie.Need-slice-aggregate-put-part
+slice-aggregate-put-part c = search needs
+
+put-part-requires : tie.Need-put-part-requires
+put-part-requires c κs = search needs
+
+put-part-requires-2 : tie.Need-put-part-requires-2
+put-part-requires-2 c κs = search needs
+
+put-part-requires-3 : tie.Need-put-part-requires-3
+put-part-requires-3 c κs = search needs
+
+put-part-requires-4 : tie.Need-put-part-requires-4
+put-part-requires-4 c κs = search needs
+
+slice-aggregate-put-part-2 : tie.Need-slice-aggregate-put-part-2
+slice-aggregate-put-part-2 c = search needs
+
+put-part-requires-5 : tie.Need-put-part-requires-5
+put-part-requires-5 c κs = search needs
+
+put-part-requires-6 : tie.Need-put-part-requires-6
+put-part-requires-6 c κs = search needs
+
+put-part-requires-7 : tie.Need-put-part-requires-7
+put-part-requires-7 c κs =
+    let s6 = c .before .before .before .before .before .before in
+    let s5 = s6 .before .before .before .before .before .before .before in
+    let s4 = s5 .before .before .before .before .before in
+    let s3 = s4 .before .before .before .before .before .before .before in
+    let s2 = s3 .before .before .before .before .before .before .before in
+    let s1 = s2 .before .before .before .before .before .before .before in
+    let kept = s6 .put-part6 .ensures .1 ∙ s5 .put-part5 .ensures .1 ∙ s4 .put-part4 .ensures .1 ∙ s3 .put-part3 .ensures .1 ∙ s2 .put-part2 .ensures .1 ∙ s1 .put-part .ensures .1 ∙ s1 .before .before .before .if1 .left in
+    let arrays : Arrays (s1 .before .before .before .before .before .args .t2) = search needs in
+    omega (arith, kept, arrays .matrix-places)
+
+same-length : tie.Need-same-length
+same-length c =
+    let s7 = c .before .before in
+    let s6 = s7 .before .before .before .before .before .before .before in
+    let s5 = s6 .before .before .before .before .before .before .before in
+    let s4 = s5 .before .before .before .before .before in
+    let s3 = s4 .before .before .before .before .before .before .before in
+    let s2 = s3 .before .before .before .before .before .before .before in
+    let s1 = s2 .before .before .before .before .before .before .before in
+    s7 .put-part7 .ensures .1 ∙ s6 .put-part6 .ensures .1 ∙ s5 .put-part5 .ensures .1 ∙ s4 .put-part4 .ensures .1 ∙ s3 .put-part3 .ensures .1 ∙ s2 .put-part2 .ensures .1 ∙ s1 .put-part .ensures .1
+
+returns-2 : tie.Need-returns-2
+returns-2 c =
+    let s7 = c .before .before in
+    let s6 = s7 .before .before .before .before .before .before .before in
+    let s5 = s6 .before .before .before .before .before .before .before in
+    let s4 = s5 .before .before .before .before .before in
+    let s3 = s4 .before .before .before .before .before .before .before in
+    let s2 = s3 .before .before .before .before .before .before .before in
+    let s1 = s2 .before .before .before .before .before .before .before in
+    let a = s1 .before .before .before .before .before .args in
+    let arrays : Arrays (a .t2) = search needs in
+    linked-into (a .list .now) (listOfPlan (a .t2)) _ (s1 .before .before .before .if1 .left ∙ sym (length-list (a .t2) arrays))
+    (s7 .put-part7 .ensures .0
+    ∙ rw (
+      s6 .put-part6 .ensures .0,
+      s5 .put-part5 .ensures .0,
+      s4 .put-part4 .ensures .0,
+      s3 .put-part3 .ensures .0,
+      s2 .put-part2 .ensures .0,
+      s1 .put-part .ensures .0,
+    )
+    (sets-parts (a .t2) arrays (a .list .now)))
+
+pub put-plan-spec : {M : Type 1} → statement M
+put-plan-spec =
+    tie.close
+    (tie.spec
+    returns
+    cast-d
+    cast-low
+    cast-high
+    slice-aggregate-put-part
+    put-part-requires
+    put-part-requires-2
+    put-part-requires-3
+    put-part-requires-4
+    slice-aggregate-put-part-2
+    put-part-requires-5
+    put-part-requires-6
+    put-part-requires-7
+    same-length
+    returns-2)
