@@ -139,8 +139,8 @@ static void visits(void)
     visit("sweep along dimension 0", plan, n, 0, 2, 2, 0, MULTIPARTITION_BAD_DIMENSION);
     visit("sweep along dimension 4", plan, n, 4, 2, 2, 0, MULTIPARTITION_BAD_DIMENSION);
     for (uint32_t k = 1; k <= 3; k++) {
-        visit("lengths too large", plan, n, k, UINT32_MAX, UINT32_MAX, 0, MULTIPARTITION_OTHER_EXTENTS);
-        visit("lengths too large", plan, n, k, 0, 0, a, MULTIPARTITION_OTHER_EXTENTS);
+        visit("other extents too large", plan, n, k, UINT32_MAX, UINT32_MAX, 0, MULTIPARTITION_OTHER_EXTENTS);
+        visit("other extents too large", plan, n, k, 0, 0, a, MULTIPARTITION_OTHER_EXTENTS);
     }
 
     expect("a smaller job", multipartition_plan(2, 3, small, 3, weights, 3, plan, n), MULTIPARTITION_ANSWERED, 0);
@@ -153,7 +153,7 @@ static void visits(void)
     visit("sweep with a long answer list", plan, n, 3, 1, 1, a + 1, MULTIPARTITION_BAD_ANSWER_LENGTH);
     expect("a sweep", multipartition_timetable(plan, n, 3, 1, 1, 1, answer, a), MULTIPARTITION_ANSWERED, 0);
     plan[MULTIPARTITION_EXTENTS] = 65536;
-    visit("lengths just too large", plan, n, 3, 1, 1, a, MULTIPARTITION_OTHER_EXTENTS);
+    visit("other extents just too large", plan, n, 3, 1, 1, a, MULTIPARTITION_OTHER_EXTENTS);
 }
 
 static void chain_lists(const char *what, const uint32_t *plan, size_t length, size_t heads_length, size_t nexts_length,

@@ -43,6 +43,10 @@ set_to() { # NAME NUMBER
 }
 
 swap() { # NAME NAME
+    if [ -z "$(number_of "$1")" ] || [ -z "$(number_of "$2")" ]; then
+        echo "wrong_headers: the header does not have both names: $1 $2" >&2
+        exit 1
+    fi
     wrong "$1 and $2 swapped" "s/\(MULTIPARTITION_$1 =\) [0-9]*/\1 $(number_of "$2")/; s/\(MULTIPARTITION_$2 =\) [0-9]*/\1 $(number_of "$1")/"
 }
 
@@ -83,7 +87,7 @@ swap BAD_DIMENSIONS BAD_PROCESSORS
 swap BAD_JOB_LENGTH BAD_ANSWER_LENGTH
 swap BAD_EXTENT NO_CUTS
 swap BAD_DIMENSION OUT_OF_RANGE
-swap OUT_OF_RANGE LENGTHS_TOO_LARGE
+swap OUT_OF_RANGE OTHER_EXTENTS
 wrong 'a step has one place more' 's/\(STEP_LENGTH(dimensions)\) (/\1 (1 + /'
 wrong 'number from the upper half' 's/returned & UINT32_MAX/returned >> 32/'
 wrong 'place from the lower half' 's/returned >> 32/returned/'

@@ -374,7 +374,7 @@ fn put_limits(out: &mut [u8], at: usize) -> usize
     put_step(out, next, 2, &long_below, &ones, 3, true, 0)
 }
 
-// Three slabs of 6 processors on 9 9 9, going down, and two of 4 on 10 10.
+// The first two steps down dimension 2 of 6 processors on 9 9 9, and up dimension 1 of 4 on 10 10.
 fn put_more_steps(out: &mut [u8], at: usize) -> usize
     ensures { λ r. ⌜ length (now (out .exit)) ≡ length (now (out .entry)) ⌝ }
 {

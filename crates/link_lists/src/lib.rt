@@ -249,7 +249,7 @@ fn message_numbers(message: Message) -> [u32; 3]
     }
 }
 
-// A visit into an answer list, with the same refusal.
+// A visit into an answer list; 9 if the list has another length.
 pub fn put_visit(answer: &mut [u32], visit: Visit) -> u64
     ensures { λ r. ⌜ Linked (into (length (now (answer .entry))) (visitNumbers (toldVisit visit))) (now (answer .entry)) r (now (answer .exit)) ⌝ }
 {

@@ -78,7 +78,7 @@ abbrev pub lineIn : List ℕ → List ℕ → List ℕ → List (List ℕ) → �
 lineIn extents cuts moduli matrix c n b table k v r =
     product (thicknesses extents cuts (placesOf cuts r)) * lineOver moduli matrix c n b table b (ownerAt moduli matrix (set (placesOf cuts r) k v))
 
--- the grid has one slab in dimension k, the flat one in dimension c too
+-- the same for plans by value: the grid has one slab in dimension k, `flat` one in dimension c too
 abbrev pub slabLine : Plan → Plan → ℕ → ℕ → ℕ → List ℕ → ℕ → ℕ
 slabLine grid flat c k v table =
     lineIn (layoutOf flat .extents) (layoutOf flat .cuts) (layoutOf grid .moduli) (layoutOf grid .matrix) c
