@@ -1,7 +1,7 @@
 -- The owner's coordinates along the walk: from the top of a block to the top of the next block down of the same level is one step down along
 -- that level.
 use mathlib.Core.Path.{_≡_, refl, sym, ap, _∙_}
-use mathlib.Core.Bool.{Bool, false}
+use mathlib.Core.Bool.{false}
 use mathlib.Core.List.{List, [], _∷_}
 use Prim.Native.Nat.{ℕ, zero, suc, _+_, _-_, _*_, _/_, _%_, _<_, _≤_}
 use native.Mathlib.Nat.{mul-add-mod-self-right, mod-eq-of-lt, mod-lt, le-refl, le-trans, le-of-eq}
@@ -11,15 +11,15 @@ use lib.ListN.{length, getD, set, take, drop, drop-of-length-le, take-append-dro
 use lib.Seq.{getD-set-same, set-set, set-getD, take-take}
 use Rattle.numbers.specs.Products.{product}
 use Rattle.numbers.proofs.Products.{product-append}
-use Rattle.multipartition.specs.Lists.{rest, restLists}
+use Rattle.multipartition.specs.Lists.{restLists}
 use Rattle.multipartition.specs.MixedRadix.{numberFrom}
-use Rattle.multipartition.specs.Neighbours.{columnOf, turn, turned}
+use Rattle.multipartition.specs.Neighbours.{columnOf, turned}
 use Rattle.multipartition.specs.Owners.{times, coordinatesAt, ownerAt}
 use Rattle.multipartition.specs.Plans.{entryAt, tilesOf}
 use Rattle.multipartition.specs.Tiles.{positionOf}
 use Rattle.multipartition.specs.Questions.{tileOwner}
-use Rattle.multipartition.proofs.MixedRadix.{Positive, product-positive, positive-of-places, positive-drop, product-drop, first-at, rest-at, digit-at, length-digits, number-ext}
-use Rattle.multipartition.proofs.Neighbours.{upOne, coordinates-down}
+use Rattle.multipartition.proofs.MixedRadix.{Positive, product-positive, positive-of-places, positive-drop, product-drop, digit-at, length-digits, number-ext}
+use Rattle.multipartition.proofs.Neighbours.{upOne, coordinates-down, column-at, turned-at}
 use Rattle.multipartition.proofs.Tiles.{position-one-down}
 use Rattle.layout.specs.declared.Plan.{Plan}
 use Rattle.layout.specs.Plans.{layoutOf}
@@ -30,22 +30,6 @@ use Rattle.layout.proofs.Owners.{coordinate-at}
 use Rattle.chains.specs.Walks.{Entries, coordinatesOf, Holds, Below, Lowered, blockSize}
 
 -- ---- over lists
-
-turned-at : (up : Bool) (moduli cs column : List ℕ) (i : ℕ) → i < length moduli
-    → getD (turned up moduli cs column) i 0 ≡ turn up (getD moduli i 0) (getD cs i 0) (getD column i 0)
-unfolding turned
-turned-at up [] cs column i l = absurd (omega arith)
-turned-at up (m ∷ moduli) cs column zero l = rw (first-at cs, first-at column)
-turned-at up (m ∷ moduli) cs column (suc i) l =
-    turned-at up moduli (rest cs) (rest column) i (omega arith) ∙ rw (rest-at cs i, rest-at column i)
-
-column-at : (k : ℕ) (moduli : List ℕ) (matrix : List (List ℕ)) (i : ℕ) → i < length moduli → getD (columnOf k moduli matrix) i 0 ≡ entryAt matrix i k
-unfolding columnOf
-column-at k [] matrix i l = absurd (omega arith)
-column-at k (m ∷ moduli) [] zero l = refl
-column-at k (m ∷ moduli) (row ∷ matrix) zero l = refl
-column-at k (m ∷ moduli) [] (suc i) l = column-at k moduli [] i (omega arith)
-column-at k (m ∷ moduli) (row ∷ matrix) (suc i) l = column-at k moduli matrix i (omega arith)
 
 length-coordinates : (moduli : List ℕ) (matrix : List (List ℕ)) (position : List ℕ) → length (coordinatesAt moduli matrix position) ≡ length moduli
 unfolding coordinatesAt

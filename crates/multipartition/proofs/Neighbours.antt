@@ -20,8 +20,9 @@ use Rattle.multipartition.specs.MixedRadix.{numberFrom, digitsOf}
 use Rattle.multipartition.specs.Owners.{times, coordinatesAt, ownerAt}
 use Rattle.multipartition.specs.Neighbours.{columnOf, turn, turned, nextOwner, neighbourAt}
 use Rattle.multipartition.specs.Tiles.{Inside, oneStepOn}
+use Rattle.multipartition.specs.Plans.{entryAt}
 use Rattle.multipartition.proofs.WholeNumbers.{remainder-difference}
-use Rattle.multipartition.proofs.MixedRadix.{Positive, number-below, digits-inside, digits-of-number, number-of-digits}
+use Rattle.multipartition.proofs.MixedRadix.{Positive, first-at, rest-at, number-below, digits-inside, digits-of-number, number-of-digits}
 use Rattle.multipartition.proofs.Tiles.{inside-length, up-taken, one-step-on-inside, step-back}
 use Rattle.multipartition.proofs.Owners.{digits-of-owner}
 
@@ -111,7 +112,7 @@ turn-back false m c a l =
     ∙ sum-of-difference m c a positive
     ∙ mod-eq-of-lt l
 
-turned-inside : (up : Bool) (moduli cs column : List ℕ) → Positive moduli → Inside moduli (turned up moduli cs column)
+pub turned-inside : (up : Bool) (moduli cs column : List ℕ) → Positive moduli → Inside moduli (turned up moduli cs column)
 unfolding turned Inside Positive
 turned-inside up [] cs column h = tt
 turned-inside up (m ∷ moduli) cs column h =
@@ -143,6 +144,24 @@ module _ (moduli : List ℕ) (matrix : List (List ℕ)) (positive : Positive mod
     where
       column : List ℕ
       column = columnOf k moduli matrix
+
+-- ---- columns and turned coordinates by places, counted from 0
+
+pub column-at : (k : ℕ) (moduli : List ℕ) (matrix : List (List ℕ)) (i : ℕ) → i < length moduli → getD (columnOf k moduli matrix) i 0 ≡ entryAt matrix i k
+unfolding columnOf
+column-at k [] matrix i l = absurd (omega arith)
+column-at k (m ∷ moduli) [] zero l = refl
+column-at k (m ∷ moduli) (row ∷ matrix) zero l = refl
+column-at k (m ∷ moduli) [] (suc i) l = column-at k moduli [] i (omega arith)
+column-at k (m ∷ moduli) (row ∷ matrix) (suc i) l = column-at k moduli matrix i (omega arith)
+
+pub turned-at : (up : Bool) (moduli cs column : List ℕ) (i : ℕ) → i < length moduli
+    → getD (turned up moduli cs column) i 0 ≡ turn up (getD moduli i 0) (getD cs i 0) (getD column i 0)
+unfolding turned
+turned-at up [] cs column i l = absurd (omega arith)
+turned-at up (m ∷ moduli) cs column zero l = rw (first-at cs, first-at column)
+turned-at up (m ∷ moduli) cs column (suc i) l =
+    turned-at up moduli (rest cs) (rest column) i (omega arith) ∙ rw (rest-at cs i, rest-at column i)
 
 -- ---- the question as it is asked
 

@@ -49,7 +49,7 @@ next-owner-first : (m : ℕ) (moduli row : List ℕ) (rows : List (List ℕ)) (k
 unfolding nextOwner turned digitsOf columnOf
 next-owner-first m moduli row rows k up q = number-first m moduli _
 
-pub turned-inside : (up : Bool) (moduli coordinates column : List ℕ) → Positive moduli → Inside moduli (turned up moduli coordinates column)
+turned-inside : (up : Bool) (moduli coordinates column : List ℕ) → Positive moduli → Inside moduli (turned up moduli coordinates column)
 unfolding turned Positive Inside
 turned-inside up [] coordinates column h = tt
 turned-inside up (m ∷ moduli) coordinates column h = (turn-below up m _ _ (h .0), turned-inside up moduli _ _ (h .1))

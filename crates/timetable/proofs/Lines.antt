@@ -1,13 +1,13 @@
 -- What the loops over lines keep, and one line of a slab as the functions put it together.
 use mathlib.Core.Path.{_≡_, refl, sym, ap, ap₂, _∙_, subst, subst⁻¹}
 use mathlib.Core.Bool.{true}
-use mathlib.Core.List.{List, [], _∷_}
-use Prim.Native.Nat.{ℕ, zero, suc, _+_, _-_, _*_, _≤_, _<_}
+use mathlib.Core.List.{List}
+use Prim.Native.Nat.{ℕ, _+_, _-_, _*_, _≤_, _<_}
 use native.Mathlib.Nat.{le-trans, mul-le-mul-right, one-mul}
 use native.Mathlib.Decide.{ℕ-discrete}
 use native.Mathlib.Omega.{arith}
 use lib.ListN.{length, getD, set, take}
-use lib.Seq.{getD-take, take-take, take-set-lt, length-take-le, getD-set-same, getD-set-other, ext-getD}
+use lib.Seq.{getD-take, take-take, take-set-lt, take-length, length-take-le, getD-set-same, getD-set-other, ext-getD}
 use Rattle.numbers.specs.Products.{product}
 use Rattle.numbers.specs.Sums.{sum}
 use Rattle.numbers.proofs.Sums.{sum-add-one, sum-front-le, sum-term-le}
@@ -65,13 +65,10 @@ module _ (grid : Plan) (s : Shaped grid) (at : List ℕ) (w : BelowCuts grid at)
           (thickness-le (getD (grid .extents) j 0) (getD (grid .cuts) j 0) (getD at j 0) (s .cut-low j h) (s .cut-fits j h) (w j h)))
 
   pub sides-all : product (take (grid .d) sides) ≡ product sides
-  sides-all = ap product (take-all sides (grid .d) (length-thicknesses (layoutOf grid .extents) (layoutOf grid .cuts) (take (grid .d) at) ∙ cuts-length grid s))
+  sides-all = ap product (ap (λ (n : ℕ). take n sides) (sym long) ∙ take-length sides)
     where
-      take-all : (xs : List ℕ) (n : ℕ) → length xs ≡ n → take n xs ≡ xs
-      take-all [] zero e = refl
-      take-all [] (suc n) e = refl
-      take-all (x ∷ xs) zero e = absurd (omega arith)
-      take-all (x ∷ xs) (suc n) e = ap (λ (ys : List ℕ). x ∷ ys) (take-all xs n (omega arith))
+      long : length sides ≡ grid .d
+      long = length-thicknesses (layoutOf grid .extents) (layoutOf grid .cuts) (take (grid .d) at) ∙ cuts-length grid s
 
 -- ---- along a line
 

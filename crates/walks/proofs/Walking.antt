@@ -2,7 +2,7 @@
 -- are counted from 0; those past d add 0 modulo 1, which changes neither a product nor a number.
 use mathlib.Core.Path.{_≡_, refl, sym, ap, _∙_}
 use mathlib.Core.Bool.{Bool, true, false}
-use mathlib.Core.List.{List, [], _∷_}
+use mathlib.Core.List.{List}
 use mathlib.Core.Logic.{⊎-elim}
 use Prim.Native.Nat.{ℕ, zero, suc, _+_, _-_, _%_, _≤_, _<_}
 use native.Mathlib.Nat.{mod-lt, mod-one, add-mod-mod, eq-or-lt-of-le}
@@ -12,12 +12,10 @@ use native.Mathlib.Omega.{arith}
 use lib.ListN.{length, getD, take, List·getD-eq-default}
 use lib.Seq.{getD-take, length-take-le, ext-getD}
 use Rattle.numbers.specs.Products.{product}
-use Rattle.multipartition.specs.Lists.{rest}
 use Rattle.multipartition.specs.MixedRadix.{numberFrom, digitsOf}
 use Rattle.multipartition.specs.Neighbours.{columnOf, turn, turned, nextOwner}
-use Rattle.multipartition.specs.Plans.{entryAt}
-use Rattle.multipartition.proofs.MixedRadix.{Positive, positive-of-places, first-at, rest-at, digits-inside, digits-of-number, number-of-digits, length-digits, number-ext}
-use Rattle.multipartition.proofs.Neighbours.{next-owner-below}
+use Rattle.multipartition.proofs.MixedRadix.{Positive, positive-of-places, digits-inside, digits-of-number, number-of-digits, length-digits, number-ext}
+use Rattle.multipartition.proofs.Neighbours.{next-owner-below, turned-inside, column-at, turned-at}
 use Rattle.multipartition.proofs.Tiles.{inside-below}
 use Rattle.layout.specs.declared.Plan.{Plan}
 use Rattle.layout.specs.Plans.{rowsFrom, layoutOf}
@@ -28,7 +26,7 @@ use Rattle.layout.proofs.Places.{moduli-length, modulus-at, entry-at}
 use Rattle.walks.specs.declared.Coordinated.{Coordinated}
 use Rattle.walks.specs.declared.Stride.{Stride}
 use Rattle.walks.specs.Walks.{IsProcessor, strideOf, Strides, Walkable, Steps}
-use Rattle.questions.proofs.Neighbours.{turn-down, turned-inside}
+use Rattle.questions.proofs.Neighbours.{turn-down}
 
 -- ---- places of 1 and 0
 
@@ -73,22 +71,6 @@ turn-by-stride false m c a l = turn-down m c a l ∙ sym (add-mod-mod c (m - a) 
 stride-below : (up : Bool) (m a : ℕ) → a < m → strideOf up m a < m
 stride-below true m a l = l
 stride-below false m a l = mod-lt (m - a) (omega arith)
-
-column-at : (k : ℕ) (moduli : List ℕ) (matrix : List (List ℕ)) (i : ℕ) → i < length moduli → getD (columnOf k moduli matrix) i 0 ≡ entryAt matrix i k
-unfolding columnOf
-column-at k [] matrix i l = absurd (omega arith)
-column-at k (m ∷ moduli) [] zero l = refl
-column-at k (m ∷ moduli) (row ∷ matrix) zero l = refl
-column-at k (m ∷ moduli) [] (suc i) l = column-at k moduli [] i (omega arith)
-column-at k (m ∷ moduli) (row ∷ matrix) (suc i) l = column-at k moduli matrix i (omega arith)
-
-turned-at : (up : Bool) (moduli coordinates column : List ℕ) (i : ℕ) → i < length moduli
-    → getD (turned up moduli coordinates column) i 0 ≡ turn up (getD moduli i 0) (getD coordinates i 0) (getD column i 0)
-unfolding turned
-turned-at up [] coordinates column i l = absurd (omega arith)
-turned-at up (m ∷ moduli) coordinates column zero l = rw (first-at coordinates, first-at column)
-turned-at up (m ∷ moduli) coordinates column (suc i) l =
-    turned-at up moduli (rest coordinates) (rest column) i (omega arith) ∙ rw (rest-at coordinates i, rest-at column i)
 
 -- ---- walks of a plan
 
