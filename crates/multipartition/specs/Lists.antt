@@ -27,6 +27,11 @@ unfoldable pub allBelow : ℕ → (ℕ → Bool) → Bool
 allBelow zero test = true
 allBelow (suc n) test = allBelow n test && test n
 
+-- the first of `count` numbers, from `from` on, that passes the test; the number after them if none does
+unfoldable pub firstSuch : (ℕ → Bool) → ℕ → ℕ → ℕ
+firstSuch test from zero = from
+firstSuch test from (suc count) = cond (test from) from (firstSuch test (suc from) count)
+
 -- f from, f (from + 1), ..: n of them
 unfoldable pub listOf : ℕ → ℕ → (ℕ → ℕ) → List ℕ
 listOf from zero f = []
