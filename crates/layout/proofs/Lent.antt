@@ -25,8 +25,8 @@ module _ (extents cuts moduli matrix : List ℕ) where
         matrix-places = eqb-true _ _ (three .1);
       }
 
-  module _ (d p : ℕ) where
-    pub plan-over : Lent extents cuts moduli matrix → planOver d p extents cuts moduli matrix ≡ lentPlan d p extents cuts moduli matrix
+  module _ (d p kind : ℕ) where
+    pub plan-over : Lent extents cuts moduli matrix → planOver d p kind extents cuts moduli matrix ≡ lentPlan d p kind extents cuts moduli matrix
     unfolding planOver
     plan-over l =
         rw (
@@ -36,11 +36,11 @@ module _ (extents cuts moduli matrix : List ℕ) where
           eq-eqb _ _ (l .matrix-places),
         )
 
-    pub not-lent : isLent extents cuts moduli matrix ≡ false → inShape (layoutOf (planOver d p extents cuts moduli matrix)) ≡ false
+    pub not-lent : isLent extents cuts moduli matrix ≡ false → inShape (layoutOf (planOver d p kind extents cuts moduli matrix)) ≡ false
     unfolding planOver inShape layoutOf noPlan
     not-lent e = rw e
 
-    pub lent-of-shape : inShape (layoutOf (planOver d p extents cuts moduli matrix)) ≡ true → Lent extents cuts moduli matrix
+    pub lent-of-shape : inShape (layoutOf (planOver d p kind extents cuts moduli matrix)) ≡ true → Lent extents cuts moduli matrix
     lent-of-shape shape = go (isLent extents cuts moduli matrix) refl
       where
         go : (b : Bool) → isLent extents cuts moduli matrix ≡ b → Lent extents cuts moduli matrix

@@ -49,6 +49,7 @@ module _ (plan : Plan) where
         d-high = s .d-range .1;
         p-low = s .p-range .0;
         p-high = s .p-range .1;
+        kind-high = s .kind-high;
         extent-low = λ k l. extent k l .0;
         extent-high = λ k l. extent k l .1;
         cut-low = λ k l. cut k l .0;
@@ -74,7 +75,7 @@ module _ (plan : Plan) where
       modulus : (i : ℕ) → i < plan .d → 1 ≤ getD (plan .moduli) i 0
       modulus i l = rw (modulus-at plan i l) at (s .modulus-low i l)
 
-  in-shape-of-places : Ranges (plan .d) (plan .p)
+  in-shape-of-places : Ranges (plan .d) (plan .p) (plan .kind)
       → ((k : ℕ) → k < plan .d → placeFits (plan .d) (plan .extents) (plan .cuts) (plan .moduli) (plan .matrix) k ≡ true)
       → product (take (plan .d) (plan .cuts)) ≤ 16777216 → product (take (plan .d) (plan .moduli)) ≡ plan .p → InShape (layoutOf plan)
   unfolding layoutOf
@@ -88,6 +89,7 @@ module _ (plan : Plan) where
         modulus-low = λ i l. rw (modulus-at plan i l) (place i l .1 .0 .0);
         moduli-product = moduli;
         entry-below = λ i j li lj. rw (entry-at (plan .d) (plan .matrix) i j li lj, modulus-at plan i li) (place i li .1 .1 j lj);
+        kind-high = ranges .kind-high;
       }
     where
       place : (k : ℕ) → k < plan .d → Place (plan .d) (plan .extents) (plan .cuts) (plan .moduli) (plan .matrix) k
@@ -109,7 +111,7 @@ module _ (plan : Plan) where
   pub in-shape-of-shaped : Shaped plan → inShape (layoutOf plan) ≡ true
   in-shape-of-shaped s =
       in-shape-iff (layoutOf plan) .1
-      (in-shape-of-places (record { d-low = s .d-low; d-high = s .d-high; p-low = s .p-low; p-high = s .p-high }) (place-of-shaped s) (s .tiles-high) (s .moduli-product))
+      (in-shape-of-places (record { d-low = s .d-low; d-high = s .d-high; p-low = s .p-low; p-high = s .p-high; kind-high = s .kind-high }) (place-of-shaped s) (s .tiles-high) (s .moduli-product))
 
 -- a test that tells whether the plan is shaped tells whether it is in shape
 pub in-shape-if : (plan : Plan) (b : Bool) → (b ≡ true → Shaped plan) → (Shaped plan → b ≡ true) → b ≡ inShape (layoutOf plan)
@@ -186,7 +188,7 @@ module _ (d : ℕ) (extents cuts moduli matrix : List ℕ) (k tiles processors :
       }
 
 -- where all have passed, the two products decide
-pub passed-all : (plan : Plan) → Ranges (plan .d) (plan .p) → (k tiles processors : ℕ) → plan .d ≤ k → k ≤ plan .d
+pub passed-all : (plan : Plan) → Ranges (plan .d) (plan .p) (plan .kind) → (k tiles processors : ℕ) → plan .d ≤ k → k ≤ plan .d
     → Passed (plan .d) (plan .extents) (plan .cuts) (plan .moduli) (plan .matrix) k tiles processors
     → (leb tiles 16777216 && eqb processors (plan .p)) ≡ inShape (layoutOf plan)
 passed-all plan ranges k tiles processors low high h =

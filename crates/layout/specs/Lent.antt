@@ -20,8 +20,8 @@ abbrev pub isLent : List ℕ → List ℕ → List ℕ → List ℕ → Bool
 isLent extents cuts moduli matrix = eqb (length extents) 5 && eqb (length cuts) 5 && eqb (length moduli) 5 && eqb (length matrix) 25
 
 -- the plan of lists that have these places; no question reads weights or cost
-abbrev pub lentPlan : ℕ → ℕ → List ℕ → List ℕ → List ℕ → List ℕ → Plan
-lentPlan d p extents cuts moduli matrix = record {
+abbrev pub lentPlan : ℕ → ℕ → ℕ → List ℕ → List ℕ → List ℕ → List ℕ → Plan
+lentPlan d p kind extents cuts moduli matrix = record {
   d = d;
   p = p;
   extents = extents;
@@ -30,8 +30,9 @@ lentPlan d p extents cuts moduli matrix = record {
   cost = 0;
   moduli = moduli;
   matrix = matrix;
+  kind = kind;
 }
 
 -- the plan of any lists: those of other lengths make the empty plan, which is out of shape
-unfoldable pub planOver : ℕ → ℕ → List ℕ → List ℕ → List ℕ → List ℕ → Plan
-planOver d p extents cuts moduli matrix = cond (isLent extents cuts moduli matrix) (lentPlan d p extents cuts moduli matrix) noPlan
+unfoldable pub planOver : ℕ → ℕ → ℕ → List ℕ → List ℕ → List ℕ → List ℕ → Plan
+planOver d p kind extents cuts moduli matrix = cond (isLent extents cuts moduli matrix) (lentPlan d p kind extents cuts moduli matrix) noPlan

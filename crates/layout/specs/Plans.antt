@@ -21,6 +21,7 @@ layoutOf plan = record {
   cost = plan .cost;
   moduli = take (plan .d) (plan .moduli);
   matrix = rowsFrom (plan .d) 0 (plan .d) (plan .matrix);
+  kind = plan .kind;
 }
 
 -- a list with zeros after it, of five places
@@ -43,6 +44,7 @@ planOf layout = record {
   cost = layout .cost;
   moduli = five (layout .moduli);
   matrix = take 25 (flat (layout .matrix) ++ replicate 25 0);
+  kind = layout .kind;
 }
 
 -- "every other part of the answer is zero"
@@ -56,4 +58,5 @@ noPlan = record {
   cost = 0;
   moduli = replicate 5 0;
   matrix = replicate 25 0;
+  kind = 0;
 }

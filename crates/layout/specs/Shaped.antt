@@ -28,12 +28,13 @@ pub record Factors (d : ℕ) (numbers : List ℕ) : Type 0 where
   pub low : (k : ℕ) → k < d → 1 ≤ getD numbers k 0
   pub high : (k : ℕ) → k < d → getD numbers k 0 ≤ 4096
 
--- "d: 2 to 5. p: 1 to 4,096."
-pub record Ranges (d p : ℕ) : Type 0 where
+-- "d: 2 to 5. p: 1 to 4,096."; document 02, request c: "a kind above 1 is a 6"
+pub record Ranges (d p kind : ℕ) : Type 0 where
   pub d-low : 2 ≤ d
   pub d-high : d ≤ 5
   pub p-low : 1 ≤ p
   pub p-high : p ≤ 4096
+  pub kind-high : kind ≤ 1
 
 -- what "in shape" says of the plan's own places
 pub record Shaped (plan : Plan) : Type 0 where
@@ -41,6 +42,7 @@ pub record Shaped (plan : Plan) : Type 0 where
   pub d-high : plan .d ≤ 5
   pub p-low : 1 ≤ plan .p
   pub p-high : plan .p ≤ 4096
+  pub kind-high : plan .kind ≤ 1
   pub extent-low : (k : ℕ) → k < plan .d → 1 ≤ getD (plan .extents) k 0
   pub extent-high : (k : ℕ) → k < plan .d → getD (plan .extents) k 0 ≤ 1000000
   pub cut-low : (k : ℕ) → k < plan .d → 1 ≤ getD (plan .cuts) k 0

@@ -12,7 +12,7 @@ ghost use Rattle.layout.specs.Shaped.{Ranges, entryOf, placeFits, Factor
 ghost use Rattle.layout.specs.Lent.{Lent, isLent, lentPlan, planOver};
 
 // Lists hold dimension k at place k - 1, and row i of the matrix stands at places 5 * (i - 1) on. Places past d are zero in the planner's
-// answer and are never read.
+// answer and are never read. The kind is 0 for the planner's plans and 1 for diagonal ones.
 pub struct Plan {
     pub d: usize,
     pub p: u32,
@@ -22,6 +22,7 @@ pub struct Plan {
     pub cost: u64,
     pub moduli: [u32; 5],
     pub matrix: [u32; 25],
+    pub kind: u32,
 }
 
 // The plan of zeros.
@@ -37,6 +38,7 @@ pub fn no_plan() -> Plan
         cost: 0,
         moduli: [0; 5],
         matrix: [0; 25],
+        kind: 0,
     }
 }
 
@@ -81,13 +83,14 @@ fn place_ok<'a>(
 fn places_ok<'a>(
     d: usize,
     p: u32,
+    kind: u32,
     extents: &'a [u32],
     cuts: &'a [u32],
     moduli: &'a [u32],
     matrix: &'a [u32],
 ) -> bool
-    requires { ⌜ (Ranges d p) × (Lent (now extents) (now cuts) (now moduli) (now matrix)) ⌝ }
-    ensures { λ r. ⌜ r ≡ inShape (layoutOf (lentPlan d p (now (extents .entry)) (now (cuts .entry)) (now (moduli .entry)) (now (matrix .entry)))) ⌝ }
+    requires { ⌜ (Ranges d p kind) × (Lent (now extents) (now cuts) (now moduli) (now matrix)) ⌝ }
+    ensures { λ r. ⌜ r ≡ inShape (layoutOf (lentPlan d p kind (now (extents .entry)) (now (cuts .entry)) (now (moduli .entry)) (now (matrix .entry)))) ⌝ }
 {
     let mut tiles: u64 = 1;
     let mut processors: u64 = 1;
@@ -117,12 +120,13 @@ fn have_places<'a>(
 pub fn shape_ok<'a>(
     d: usize,
     p: u32,
+    kind: u32,
     extents: &'a [u32],
     cuts: &'a [u32],
     moduli: &'a [u32],
     matrix: &'a [u32],
 ) -> bool
-    ensures { λ r. ⌜ r ≡ inShape (layoutOf (planOver d p (now (extents .entry)) (now (cuts .entry)) (now (moduli .entry)) (now (matrix .entry)))) ⌝ }
+    ensures { λ r. ⌜ r ≡ inShape (layoutOf (planOver d p kind (now (extents .entry)) (now (cuts .entry)) (now (moduli .entry)) (now (matrix .entry)))) ⌝ }
 {
     if !have_places(extents, cuts, moduli, matrix) {
         return false;
@@ -139,7 +143,10 @@ pub fn shape_ok<'a>(
     if 4096 < p {
         return false;
     }
-    places_ok(d, p, extents, cuts, moduli, matrix)
+    if 1 < kind {
+        return false;
+    }
+    places_ok(d, p, kind, extents, cuts, moduli, matrix)
 }
 
 // Whether a plan is in shape: refusal 6 is for the others.
@@ -149,6 +156,7 @@ pub fn in_shape(plan: Plan) -> bool
     shape_ok(
         plan.d,
         plan.p,
+        plan.kind,
         &plan.extents,
         &plan.cuts,
         &plan.moduli,

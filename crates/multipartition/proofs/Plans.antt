@@ -63,27 +63,33 @@ in-shape-iff plan =
     let tiles = and-iff (D && P && C) T dimensions (leb-iff (tilesOf plan) 16777216) in
     let rows = and-iff (D && P && C && T) R tiles
     (all-iff (plan .d) (rowOk (plan .d) (plan .moduli) (plan .matrix)) (row-iff (plan .d) (plan .moduli) (plan .matrix))) in
-    let all = and-iff (D && P && C && T && R) (eqb (product (plan .moduli)) (plan .p)) rows (eqb-iff (product (plan .moduli)) (plan .p)) in (
+    let M : Bool = eqb (product (plan .moduli)) (plan .p) in
+    let moduli = and-iff (D && P && C && T && R) M rows (eqb-iff (product (plan .moduli)) (plan .p)) in
+    let all = and-iff (D && P && C && T && R && M) (leb (plan .kind) 1) moduli (leb-iff (plan .kind) 1) in (
       (λ e. let h = all .0 e in
           record {
-            d-range = h .0 .0 .0 .0 .0;
-            p-range = h .0 .0 .0 .0 .1;
-            extent-range = λ k l. h .0 .0 .0 .1 k l .0 .0;
-            cut-range = λ k l. let cut = h .0 .0 .0 .1 k l in (cut .0 .1 .0, cut .0 .1 .1, cut .1);
-            tiles-high = h .0 .0 .1;
-            modulus-low = λ i l. h .0 .1 i l .0;
-            moduli-product = h .1;
-            entry-below = λ i j l m. h .0 .1 i l .1 j m;
+            d-range = h .0 .0 .0 .0 .0 .0;
+            p-range = h .0 .0 .0 .0 .0 .1;
+            extent-range = λ k l. h .0 .0 .0 .0 .1 k l .0 .0;
+            cut-range = λ k l. let cut = h .0 .0 .0 .0 .1 k l in (cut .0 .1 .0, cut .0 .1 .1, cut .1);
+            tiles-high = h .0 .0 .0 .1;
+            modulus-low = λ i l. h .0 .0 .1 i l .0;
+            moduli-product = h .0 .1;
+            entry-below = λ i j l m. h .0 .0 .1 i l .1 j m;
+            kind-high = h .1;
           }),
       λ s. all .1 (
         (
           (
-            ((s .d-range, s .p-range), λ k l. ((s .extent-range k l, (s .cut-range k l .0, s .cut-range k l .1)), s .cut-range k l .2)),
-            s .tiles-high,
+            (
+              ((s .d-range, s .p-range), λ k l. ((s .extent-range k l, (s .cut-range k l .0, s .cut-range k l .1)), s .cut-range k l .2)),
+              s .tiles-high,
+            ),
+            λ i l. (s .modulus-low i l, λ j m. s .entry-below i j l m),
           ),
-          λ i l. (s .modulus-low i l, λ j m. s .entry-below i j l m),
+          s .moduli-product,
         ),
-        s .moduli-product,
+        s .kind-high,
       ),
     )
 
@@ -140,6 +146,7 @@ layout-in-shape job cuts passed e =
           (subst⁻¹ (λ (n : ℕ). i < n) (length-moduli (job .p) cuts) (inside i l));
       moduli-product = moduli-product (job .p) cuts (omega (arith, same-length, range .d-low)) (chosen-even job cuts e);
       entry-below = λ i j l m. matrix-entry-below (job .p) cuts (range .p-low) i j (inside i l);
+      kind-high = omega arith;
     })
   where
     range : InRange (job .p) (job .extents)

@@ -22,7 +22,7 @@ abbrev pub jobWith : ℕ → ℕ → List ℕ → List ℕ → Job
 jobWith p d extents weights = record { p = p; d = d; extents = extents; weights = weights }
 
 -- "A plan holds d, p, extents, weights, cuts, cost, moduli, matrix": each list has d numbers, the matrix d rows of d numbers. "Places past d
--- .. are never read": a layout has none.
+-- .. are never read": a layout has none. Document 02, request c: plans have "a kind field: 0 for the planner's, 1 for diagonal".
 pub record Layout : Type 0 where
   pub d : ℕ
   pub p : ℕ
@@ -32,6 +32,7 @@ pub record Layout : Type 0 where
   pub cost : ℕ
   pub moduli : List ℕ
   pub matrix : List (List ℕ)
+  pub kind : ℕ
 
 -- the job that a plan holds
 abbrev pub jobOf : Layout → Job
@@ -48,6 +49,7 @@ layoutWith job cuts = record {
   cost = costOf (job .weights) cuts;
   moduli = moduliOf (job .p) cuts;
   matrix = matrixOf (job .p) cuts;
+  kind = 0;
 }
 
 -- "tiles = b1 × ... × bd"
@@ -71,7 +73,8 @@ abbrev pub rowOk : ℕ → List ℕ → List (List ℕ) → ℕ → Bool
 rowOk d moduli matrix i = leb 1 (getD moduli i 0) && allBelow d (λ j. ltb (entryAt matrix i j) (getD moduli i 0))
 
 -- "A plan is out of shape if d, p or an extent is out of range, a cut is 0 or above its extent or above 4,096, there are more than 16,777,216
--- tiles, a modulus is 0, the moduli don't multiply to p, or a matrix entry is not below its row's modulus."
+-- tiles, a modulus is 0, the moduli don't multiply to p, or a matrix entry is not below its row's modulus." Document 02, request c: "a kind above 1
+-- is a 6".
 unfoldable pub inShape : Layout → Bool
 inShape plan =
     between 2 5 (plan .d)
@@ -80,6 +83,7 @@ inShape plan =
     && leb (tilesOf plan) 16777216
     && allBelow (plan .d) (rowOk (plan .d) (plan .moduli) (plan .matrix))
     && eqb (product (plan .moduli)) (plan .p)
+    && leb (plan .kind) 1
 
 -- the same as facts, a field for each clause; dimensions, rows and columns are counted from 0
 pub record InShape (plan : Layout) : Type 0 where
@@ -92,3 +96,4 @@ pub record InShape (plan : Layout) : Type 0 where
   pub modulus-low : (i : ℕ) → i < plan .d → 1 ≤ getD (plan .moduli) i 0
   pub moduli-product : product (plan .moduli) ≡ plan .p
   pub entry-below : (i j : ℕ) → i < plan .d → j < plan .d → entryAt (plan .matrix) i j < getD (plan .moduli) i 0
+  pub kind-high : plan .kind ≤ 1

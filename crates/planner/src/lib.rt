@@ -22,7 +22,7 @@ pub struct Planned {
 }
 
 // A refusal, all else zero.
-fn refused(number: u32, place: u32) -> Planned
+pub fn refused(number: u32, place: u32) -> Planned
     ensures { λ r. ⌜ r ≡ plannedOf (refusal number place) ⌝ }
 {
     let none = layout::no_plan();
@@ -34,7 +34,7 @@ fn refused(number: u32, place: u32) -> Planned
 }
 
 // At most five numbers, with zeros after them.
-fn padded(numbers: &[u32]) -> [u32; 5]
+pub fn padded(numbers: &[u32]) -> [u32; 5]
     requires { ⌜ length (now numbers) ≤ 5 ⌝ }
     ensures { λ r. ⌜ r ≡ five (now (numbers .entry)) ⌝ }
 {
@@ -53,7 +53,7 @@ fn in_range(extent: u32) -> bool
 }
 
 // The first dimension, counted from 1, whose extent is out of range; 0 if there is none.
-fn first_outside(extents: &[u32]) -> u32
+pub fn first_outside(extents: &[u32]) -> u32
     requires { ⌜ length (now extents) ≤ 5 ⌝ }
     ensures { λ r. ⌜ r ≡ firstOutside 1 (now (extents .entry)) ⌝ }
 {
@@ -87,6 +87,7 @@ fn plan_with(p: u32, extents: &[u32], weights: &[u32], cuts: [u32; 5], cost: u64
         cost: cost,
         moduli: moduli,
         matrix: matrix,
+        kind: 0,
     }
 }
 

@@ -79,15 +79,16 @@ pub fn owner_number<'a>(d: usize, moduli: &'a [u32], matrix: &'a [u32], position
 pub fn owner_over<'a>(
     d: usize,
     p: u32,
+    kind: u32,
     extents: &'a [u32],
     cuts: &'a [u32],
     moduli: &'a [u32],
     matrix: &'a [u32],
     position: &'a [u32],
 ) -> Owner
-    ensures { λ r. ⌜ toldOwner r ≡ ownerAnswer (layoutOf (planOver d p (now (extents .entry)) (now (cuts .entry)) (now (moduli .entry)) (now (matrix .entry)))) (now (position .entry)) ⌝ }
+    ensures { λ r. ⌜ toldOwner r ≡ ownerAnswer (layoutOf (planOver d p kind (now (extents .entry)) (now (cuts .entry)) (now (moduli .entry)) (now (matrix .entry)))) (now (position .entry)) ⌝ }
 {
-    if !layout::shape_ok(d, p, extents, cuts, moduli, matrix) {
+    if !layout::shape_ok(d, p, kind, extents, cuts, moduli, matrix) {
         return Owner::Refused {
             number: 6,
             place: 0,
@@ -115,6 +116,7 @@ pub fn owner_of(plan: Plan, position: &[u32]) -> Owner
     owner_over(
         plan.d,
         plan.p,
+        plan.kind,
         &plan.extents,
         &plan.cuts,
         &plan.moduli,
@@ -177,6 +179,7 @@ pub fn neighbour_number<'a>(
 pub fn neighbour_over<'a>(
     d: usize,
     p: u32,
+    kind: u32,
     extents: &'a [u32],
     cuts: &'a [u32],
     moduli: &'a [u32],
@@ -185,9 +188,9 @@ pub fn neighbour_over<'a>(
     dimension: usize,
     up: bool,
 ) -> Neighbour
-    ensures { λ r. ⌜ toldNeighbour r ≡ neighbourAnswer (layoutOf (planOver d p (now (extents .entry)) (now (cuts .entry)) (now (moduli .entry)) (now (matrix .entry)))) processor dimension up ⌝ }
+    ensures { λ r. ⌜ toldNeighbour r ≡ neighbourAnswer (layoutOf (planOver d p kind (now (extents .entry)) (now (cuts .entry)) (now (moduli .entry)) (now (matrix .entry)))) processor dimension up ⌝ }
 {
-    if !layout::shape_ok(d, p, extents, cuts, moduli, matrix) {
+    if !layout::shape_ok(d, p, kind, extents, cuts, moduli, matrix) {
         return Neighbour::Refused {
             number: 6,
             place: 0,
@@ -225,6 +228,7 @@ pub fn neighbour_of(plan: Plan, processor: u32, dimension: usize, up: bool) -> N
     neighbour_over(
         plan.d,
         plan.p,
+        plan.kind,
         &plan.extents,
         &plan.cuts,
         &plan.moduli,

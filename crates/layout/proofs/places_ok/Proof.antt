@@ -8,10 +8,10 @@ use Rattle.layout.proofs.places_ok.Statement.{statement}
 use Rattle.layout.proofs.places_ok.Tie as tie
 
 abbrev Inv-loop : tie.InvT-loop
-Inv-loop d p extents cuts moduli matrix tiles₀ processors₀ k₀ tiles processors k = (k ≤ d) × Passed d extents cuts moduli matrix k tiles processors
+Inv-loop d p kind extents cuts moduli matrix tiles₀ processors₀ k₀ tiles processors k = (k ≤ d) × Passed d extents cuts moduli matrix k tiles processors
 
 abbrev μ-loop : tie.MeasureT-loop
-μ-loop d p extents cuts moduli matrix tiles₀ processors₀ k₀ tiles processors k = d - k
+μ-loop d p kind extents cuts moduli matrix tiles₀ processors₀ k₀ tiles processors k = d - k
 
 loop-holds : tie.Need-loop-holds Inv-loop μ-loop
 loop-holds c = (omega arith, passed-none _ _ _ _ _)
@@ -22,7 +22,7 @@ place-ok-requires c κs = search needs
 returns : tie.Need-returns Inv-loop μ-loop
 returns c = let s = c .before .before .before .before .before .before .before .before in
     let a = s .args in
-    failed-check (lentPlan (a .d) (a .p) (a .extents .now) (a .cuts .now) (a .moduli .now) (a .matrix .now)) _ _ (c .before .place-ok .ensures)
+    failed-check (lentPlan (a .d) (a .p) (a .kind) (a .extents .now) (a .cuts .now) (a .moduli .now) (a .matrix .now)) _ _ (c .before .place-ok .ensures)
     (λ h. place-of-shaped _ h (c .before .before .before .loop .k) (omega arith))
     (c .if1 .taken)
 
@@ -72,7 +72,7 @@ returns-2 : tie.Need-returns-2 Inv-loop μ-loop
 returns-2 c = let s = c .before .before .before .before .before .before .before in
     let a = s .args in
     rw (c .wide3 .ensures)
-    (passed-all (lentPlan (a .d) (a .p) (a .extents .now) (a .cuts .now) (a .moduli .now) (a .matrix .now)) (s .pre .0) _ _ _ (omega arith) (omega arith)
+    (passed-all (lentPlan (a .d) (a .p) (a .kind) (a .extents .now) (a .cuts .now) (a .moduli .now) (a .matrix .now)) (s .pre .0) _ _ _ (omega arith) (omega arith)
     (c .before .before .loop .inv .1))
 
 pub places-ok-spec : {M : Type 1} → statement M

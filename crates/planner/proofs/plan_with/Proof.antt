@@ -30,6 +30,7 @@ returns c =
       cost = start .pre .1 .1 i;
       moduli = c .before .moduli-of .ensures i;
       matrix = c .matrix-of .ensures i;
+      kind = 0;
     }
 
 pub plan-with-spec : {M : Type 1} → statement M

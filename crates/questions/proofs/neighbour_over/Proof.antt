@@ -24,14 +24,14 @@ use Rattle.questions.proofs.neighbour_over.Tie as tie
 abbrev plan : tie.Start → Plan
 plan s =
     let a = s .args in
-    lentPlan (a .d) (a .p) (a .extents .now) (a .cuts .now) (a .moduli .now) (a .matrix .now)
+    lentPlan (a .d) (a .p) (a .kind) (a .extents .now) (a .cuts .now) (a .moduli .now) (a .matrix .now)
 
 -- once the first check has passed, the lists have a plan's places
 lent : (c : tie.Else1) → let a = c .before .before .before .before .before .before .args in Lent (a .extents .now) (a .cuts .now) (a .moduli .now) (a .matrix .now)
-lent c = lent-of-shape _ _ _ _ _ _ (sym (c .before .shape-ok .ensures) ∙ not-false _ (c .if1 .left))
+lent c = lent-of-shape _ _ _ _ _ _ _ (sym (c .before .shape-ok .ensures) ∙ not-false _ (c .if1 .left))
 
-over : (c : tie.Else1) → let a = c .before .before .before .before .before .before .args in planOver (a .d) (a .p) (a .extents .now) (a .cuts .now) (a .moduli .now) (a .matrix .now) ≡ plan (c .before .before .before .before .before .before)
-over c = plan-over _ _ _ _ _ _ (lent c)
+over : (c : tie.Else1) → let a = c .before .before .before .before .before .before .args in planOver (a .d) (a .p) (a .kind) (a .extents .now) (a .cuts .now) (a .moduli .now) (a .matrix .now) ≡ plan (c .before .before .before .before .before .before)
+over c = plan-over _ _ _ _ _ _ _ (lent c)
 
 -- and their plan is in shape
 shape : (c : tie.Else1) → inShape (layoutOf (plan (c .before .before .before .before .before .before))) ≡ true
