@@ -50,7 +50,7 @@ or-false true t e = let clash : _≡_ {A = ℕ} 0 1 = cc in absurd (omega arith)
 or-false false t e = (refl, e)
 
 -- the first such dimension is one of them
-first-outside-le : (k : ℕ) (extents : List ℕ) → firstOutside k extents ≤ k + length extents
+pub first-outside-le : (k : ℕ) (extents : List ℕ) → firstOutside k extents ≤ k + length extents
 unfolding firstOutside
 first-outside-le k [] = omega arith
 first-outside-le k (n ∷ extents) =

@@ -1,5 +1,5 @@
 -- What the planner answers to a job (document 01, "Choosing the cuts" and "Where each call turns back").
-use mathlib.Core.Bool.{not, cond, _||_}
+use mathlib.Core.Bool.{Bool, not, cond, _||_}
 use mathlib.Core.List.{List, [], _∷_}
 use mathlib.Core.Option.{Option, none, some}
 use mathlib.Core.Path.{_≡_}
@@ -25,19 +25,34 @@ pub record Passed (job : Job) : Type 0 where
   pub extents-many : length (job .extents) ≡ job .d
   pub weights-many : length (job .weights) ≡ job .d
 
--- "an extent out of range; place: first such dimension", counted on from k; 0 if there is none
+-- "first such dimension": the first extent out of range, counted on from k; 0 if there is none
 unfoldable pub firstOutside : ℕ → List ℕ → ℕ
 firstOutside k [] = 0
 firstOutside k (n ∷ extents) = cond (between 1 1000000 n) (firstOutside (suc k) extents) k
 
+-- "d not 2..5"
+abbrev pub dimensionsCheck : ℕ → Check
+dimensionsCheck d = record { fails = not (between 2 5 d); number = 1; place = 0 }
+
+-- "p not 1..4,096"
+abbrev pub processorsCheck : ℕ → Check
+processorsCheck p = record { fails = not (between 1 4096 p); number = 2; place = 0 }
+
+-- document 02, request c: "12, p or d doesn't suit the layout, after 2 and before 3"
+abbrev pub suitsCheck : Bool → Check
+suitsCheck suits = record { fails = not suits; number = 12; place = 0 }
+
+-- "extents or weights not d many"
+abbrev pub lengthsCheck : Job → Check
+lengthsCheck job = record { fails = not (eqb (length (job .extents)) (job .d)) || not (eqb (length (job .weights)) (job .d)); number = 3; place = 0 }
+
+-- "an extent out of range; place: first such dimension"
+abbrev pub extentsCheck : Job → Check
+extentsCheck job = record { fails = not (eqb (firstOutside 1 (job .extents)) 0); number = 4; place = firstOutside 1 (job .extents) }
+
 -- the lines 1 to 4 of the table
 abbrev pub jobChecks : Job → List Check
-jobChecks job =
-    record { fails = not (between 2 5 (job .d)); number = 1; place = 0 }
-    ∷ record { fails = not (between 1 4096 (job .p)); number = 2; place = 0 }
-    ∷ record { fails = not (eqb (length (job .extents)) (job .d)) || not (eqb (length (job .weights)) (job .d)); number = 3; place = 0 }
-    ∷ record { fails = not (eqb (firstOutside 1 (job .extents)) 0); number = 4; place = firstOutside 1 (job .extents) }
-    ∷ []
+jobChecks job = dimensionsCheck (job .d) ∷ processorsCheck (job .p) ∷ lengthsCheck job ∷ extentsCheck job ∷ []
 
 -- the cuts chosen for a job
 abbrev pub cheapestFor : Job → Option (List ℕ)

@@ -19,7 +19,7 @@ use Rattle.multipartition.proofs.Jobs.{job-passes-iff, or-false}
 abbrev pub outsideRange : ℕ → ℕ → ℕ → Bool
 outsideRange low high n = ltb n low || ltb high n
 
-outside-range : (low high n : ℕ) → outsideRange low high n ≡ not (between low high n)
+pub outside-range : (low high n : ℕ) → outsideRange low high n ≡ not (between low high n)
 outside-range low high n = go (decLe low n) (decLe n high)
   where
     go : Dec (low ≤ n) → Dec (n ≤ high) → outsideRange low high n ≡ not (leb low n && leb n high)

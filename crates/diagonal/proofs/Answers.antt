@@ -1,0 +1,98 @@
+-- What the diagonal call answers: a job that is answered has d = 2 or 3 dimensions and s to the power d - 1 processors, s cuts each way fit, and its
+-- plan is in shape.
+use mathlib.Core.Path.{_≡_, refl, sym, ap, _∙_, subst, subst⁻¹}
+use mathlib.Core.Bool.{Bool, true, not}
+use mathlib.Core.List.{List}
+use Prim.Native.Nat.{ℕ, zero, suc, _+_, _-_, _^_, _≤_, _<_}
+use native.Mathlib.Omega.{arith}
+use borrow.Author.Tests.{not-false}
+use lib.Dec.{leb}
+use lib.ListN.{length, replicate}
+use Rattle.multipartition.specs.Answers.{Answer, answered, refused}
+use Rattle.multipartition.specs.Cuts.{Fits}
+use Rattle.multipartition.specs.Plans.{Job, Layout, between, inShape}
+use Rattle.multipartition.specs.Jobs.{Passed}
+use Rattle.multipartition.proofs.Answers.{AllPass, Small, answers-iff, checked-small}
+use Rattle.multipartition.proofs.Jobs.{job-passes-iff, first-outside-le}
+use Rattle.multipartition.proofs.Plans.{in-shape-iff}
+use Rattle.multipartition.proofs.Tests.{and-true-iff, between-true-iff, leb-iff}
+use Rattle.layout.specs.Sized.{Sized}
+use Rattle.diagonal.specs.Diagonal.{diagonalCuts, diagonalPlan, sideOf, suits, sideFits, diagonalChecks, diagonalAnswer}
+use Rattle.diagonal.proofs.Sides.{side-low, side-power, fits-of-side}
+use Rattle.diagonal.proofs.Plans.{diagonal-in-shape, diagonal-sized}
+
+-- what the answer `plan` to a job says, for d = n + 2
+pub record DiagonalFor (job : Job) (plan : Layout) : Type 0 where
+  pub n : ℕ
+  pub s : ℕ
+  pub dimensions : job .d ≡ suc (suc n)
+  pub few : n ≤ 1
+  pub processors : s ^ suc n ≡ job .p
+  pub positive : zero < s
+  pub passed : Passed job
+  pub fits : Fits (job .extents) (diagonalCuts (job .d) s)
+  pub plan-is : plan ≡ diagonalPlan job s
+
+module _ (job : Job) (plan : Layout) (e : diagonalAnswer job ≡ answered plan) where
+  pub diagonal-for : DiagonalFor job plan
+  unfolding diagonalAnswer suits
+  diagonal-for =
+      let asked = answers-iff (diagonalChecks job) (diagonalPlan job s) plan .0 e in
+      let pass = asked .0 in
+      let passed = job-passes-iff job .0 (pass .0, (pass .1 .0, (pass .1 .1 .1 .0, (pass .1 .1 .1 .1 .0, tt)))) in
+      let suit = and-true-iff (between 2 3 (job .d)) (leb s (job .p)) .0 (not-false (suits (job .d) (job .p)) (pass .1 .1 .0)) in
+      let range = between-true-iff 2 3 (job .d) .0 (suit .0) in
+      let high : s ≤ job .p = leb-iff s (job .p) .0 (suit .1) in
+      let dimensions : job .d ≡ suc (suc (job .d - 2)) = omega (arith, range .0) in
+      let low : zero < s = side-low (job .d) (job .p) in
+      record {
+        n = job .d - 2;
+        s = s;
+        dimensions = dimensions;
+        few = omega (arith, range .1);
+        processors =
+            subst⁻¹ (λ (d : ℕ). sideOf d (job .p) ^ suc (job .d - 2) ≡ job .p) dimensions
+            (side-power (job .d - 2) (job .p) (subst (λ (d : ℕ). sideOf d (job .p) ≤ job .p) dimensions high));
+        positive = low;
+        passed = passed;
+        fits =
+            subst (λ (m : ℕ). Fits (job .extents) (replicate m s)) (passed .extents-many)
+            (fits-of-side s (job .extents) low (not-false (sideFits s (job .extents)) (pass .1 .1 .1 .1 .1 .0)));
+        plan-is = sym (asked .1);
+      }
+    where
+      s : ℕ
+      s = sideOf (job .d) (job .p)
+
+  -- a diagonal plan is in shape
+  pub diagonal-answer-in-shape : inShape plan ≡ true
+  diagonal-answer-in-shape =
+      let made = diagonal-for in
+      subst⁻¹ (λ (l : Layout). inShape l ≡ true) (made .plan-is)
+      (in-shape-iff (diagonalPlan job (made .s)) .1
+      (diagonal-in-shape job (made .n) (made .s) (made .dimensions) (made .processors) (made .passed) (made .fits)))
+
+  -- and a plan by value can hold it
+  pub diagonal-answer-sized : Sized plan
+  diagonal-answer-sized =
+      let made = diagonal-for in
+      subst⁻¹ Sized (made .plan-is) (diagonal-sized job (made .n) (made .s) (made .dimensions) (made .processors) (made .passed) (made .fits))
+
+-- a refusal has a number from 1 on, and one of two digits
+pub diagonal-small : (job : Job) → Small (1 + length (job .extents)) (diagonalAnswer job)
+unfolding diagonalAnswer
+diagonal-small job =
+    checked-small (1 + length (job .extents)) (diagonalChecks job) (answered (diagonalPlan job (sideOf (job .d) (job .p)))) (
+      (omega arith, omega arith, omega arith),
+      (
+        (omega arith, omega arith, omega arith),
+        (
+          (omega arith, omega arith, omega arith),
+          (
+            (omega arith, omega arith, omega arith),
+            ((omega arith, omega arith, first-outside-le 1 (job .extents)), ((omega arith, omega arith, omega arith), tt)),
+          ),
+        ),
+      ),
+    )
+    tt

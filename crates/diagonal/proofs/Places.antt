@@ -1,0 +1,67 @@
+-- The cost of diagonal cuts, one dimension more at a time, and the matrix in its 25 places.
+use mathlib.Core.Path.{_≡_, refl, sym, ap, ap₂, _∙_}
+use mathlib.Core.List.{List, [], _∷_, _++_}
+use Prim.Native.Nat.{ℕ, zero, suc, _+_, _-_, _*_, _%_, _≤_, _<_}
+use native.Mathlib.Nat.{mod-eq-of-lt, mul-zero, mul-one, zero-add, add-zero, zero-mod}
+use native.Mathlib.Numerals.{add-one}
+use native.Mathlib.Omega.{arith}
+use lib.ListN.{length, getD, take, replicate}
+use Rattle.numbers.specs.Sums.{same}
+use Rattle.multipartition.specs.Cuts.{cutCost, costOf}
+use Rattle.multipartition.specs.Lists.{listOf}
+use Rattle.layout.specs.Plans.{flat}
+use Rattle.diagonal.specs.Diagonal.{diagonalCuts, diagonalModuli, diagonalRow, diagonalRows, diagonalMatrix}
+
+cost-suc : (s : ℕ) (weights : List ℕ) (k : ℕ) → k < length weights
+    → costOf (take (suc k) weights) (diagonalCuts (suc k) s) ≡ costOf (take k weights) (diagonalCuts k s) + cutCost s (getD weights k 0)
+cost-suc s [] k l = absurd (omega arith)
+cost-suc s (w ∷ weights) zero l = omega arith
+cost-suc s (w ∷ weights) (suc k) l = omega (arith, cost-suc s weights k (omega arith))
+
+pub cost-add-one : (s : ℕ) (weights : List ℕ) (k : ℕ) → k < length weights
+    → costOf (take (k + 1) weights) (diagonalCuts (k + 1) s) ≡ costOf (take k weights) (diagonalCuts k s) + cutCost s (getD weights k 0)
+cost-add-one s weights k l = ap (λ (n : ℕ). costOf (take n weights) (diagonalCuts n s)) (add-one k) ∙ cost-suc s weights k l
+
+-- ---- the three entries that a row has
+
+entry-none : (s : ℕ) → (0 + (s - 1) * 0) % s ≡ 0
+entry-none s = ap (λ (n : ℕ). n % s) (omega arith) ∙ zero-mod s
+
+entry-one : (s : ℕ) → (1 + (s - 1) * 0) % s ≡ 1 % s
+entry-one s = ap (λ (n : ℕ). n % s) (omega arith)
+
+entry-last : (s : ℕ) → 1 ≤ s → (0 + (s - 1) * 1) % s ≡ s - 1
+entry-last s l =
+    let below : s - 1 < s = omega arith in
+    ap (λ (n : ℕ). n % s) (omega arith) ∙ mod-eq-of-lt below
+
+-- ---- the matrix, its rows five places apart
+
+abbrev pub rows2 : ℕ → ℕ → List ℕ
+rows2 one last = 0 ∷ 0 ∷ 0 ∷ 0 ∷ 0 ∷ one ∷ last ∷ 0 ∷ 0 ∷ 0 ∷ replicate 15 0
+
+abbrev rowsWith : ℕ → ℕ → ℕ → List ℕ
+rowsWith none one last = 0 ∷ 0 ∷ 0 ∷ 0 ∷ 0 ∷ one ∷ none ∷ last ∷ 0 ∷ 0 ∷ none ∷ one ∷ last ∷ 0 ∷ 0 ∷ replicate 10 0
+
+abbrev pub rows3 : ℕ → ℕ → List ℕ
+rows3 = rowsWith 0
+
+pub matrix-2 : (s : ℕ) → 1 ≤ s → rows2 (1 % s) (s - 1) ≡ take 25 (flat (diagonalMatrix 2 s) ++ replicate 25 0)
+unfolding flat diagonalMatrix diagonalRows diagonalRow listOf same
+matrix-2 s l = sym (ap₂ rows2 (entry-one s) (entry-last s l))
+
+pub matrix-3 : (s : ℕ) → 1 ≤ s → rows3 (1 % s) (s - 1) ≡ take 25 (flat (diagonalMatrix 3 s) ++ replicate 25 0)
+unfolding flat diagonalMatrix diagonalRows diagonalRow listOf same
+matrix-3 s l =
+    sym (ap₂ (rowsWith ((0 + (s - 1) * 0) % s)) (entry-one s) (entry-last s l) ∙ ap (λ (none : ℕ). rowsWith none (1 % s) (s - 1)) (entry-none s))
+
+-- ---- cuts and moduli
+
+pub cuts-from-first : (d s : ℕ) → 1 ≤ d → (s ∷ replicate (d - 1) s) ≡ diagonalCuts d s
+cuts-from-first zero s l = absurd (omega arith)
+cuts-from-first (suc n) s l = let less : suc n - 1 ≡ n = omega arith in ap (λ (m : ℕ). s ∷ replicate m s) less
+
+pub moduli-from-first : (d s : ℕ) → 1 ≤ d → (1 ∷ replicate (d - 1) s) ≡ diagonalModuli d s
+unfolding diagonalModuli
+moduli-from-first zero s l = absurd (omega arith)
+moduli-from-first (suc n) s l = let less : suc n - 1 ≡ n = omega arith in ap (λ (m : ℕ). 1 ∷ replicate m s) less

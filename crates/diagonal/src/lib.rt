@@ -1,0 +1,201 @@
+// The diagonal layouts: the answer to a job is a diagonal plan or a refusal.
+use layout::Plan;
+use planner::Planned;
+use planner::first_outside;
+use planner::padded;
+use planner::refused;
+ghost use mathlib.Core.Path.{_≡_};
+ghost use mathlib.Core.List.{_++_, _∷_};
+ghost use Prim.Native.Nat.{_-_, _^_, _≤_};
+ghost use lib.ListN.{length, replicate, take};
+ghost use Rattle.multipartition.specs.Cuts.{cutCost, costOf};
+ghost use Rattle.multipartition.specs.Plans.{jobWith};
+ghost use Rattle.layout.specs.Plans.{five, flat, planOf};
+ghost use Rattle.planner.specs.Planned.{plannedOf};
+ghost use Rattle.diagonal.specs.Diagonal.{diagonalCuts, diagonalMatrix, diagonalPlan, sideOf, sideFits, diagonalAnswer};
+
+// The s with s * s = p; p + 1 if there is none.
+fn square_side(p: u32) -> u32
+    requires { ⌜ (1 ≤ p) × (p ≤ 4096) ⌝ }
+    ensures { λ r. ⌜ r ≡ sideOf 3 p ⌝ }
+{
+    let mut s: u32 = 1;
+    while s * s < p {
+        s = s + 1;
+    }
+    if s * s == p {
+        return s;
+    }
+    p + 1
+}
+
+// The side of the layout for p processors: p in two dimensions, the square root of p in three; p + 1 if there is none.
+fn side_of(d: usize, p: u32) -> u32
+    requires { ⌜ (2 ≤ d) × (d ≤ 3) × (1 ≤ p) × (p ≤ 4096) ⌝ }
+    ensures { λ r. ⌜ r ≡ sideOf d p ⌝ }
+{
+    if d == 2 {
+        return p;
+    }
+    square_side(p)
+}
+
+// Whether no cut is above its extent.
+fn side_fits(s: u32, extents: &[u32]) -> bool
+    ensures { λ r. ⌜ r ≡ sideFits s (now (extents .entry)) ⌝ }
+{
+    let mut ok = true;
+    for k in 0..extents.len() {
+        ok = ok & (s <= extents[k]);
+    }
+    ok
+}
+
+// What a dimension of weight w costs with s cuts.
+fn cut_cost(s: u32, w: u32) -> u64
+    requires { ⌜ (1 ≤ s) × (s ≤ 4096) ⌝ }
+    ensures { λ r. ⌜ (r ≡ cutCost s w) × (r ≤ 2 ^ 44) ⌝ }
+{
+    (s - 1) as u64 * w as u64
+}
+
+// What s cuts each way cost.
+fn cost_of(s: u32, weights: &[u32]) -> u64
+    requires { ⌜ (1 ≤ s) × (s ≤ 4096) × (length (now weights) ≤ 3) ⌝ }
+    ensures { λ r. ⌜ r ≡ costOf (now (weights .entry)) (diagonalCuts (length (now (weights .entry))) s) ⌝ }
+{
+    let mut cost: u64 = 0;
+    for k in 0..weights.len() {
+        cost = cost + cut_cost(s, weights[k]);
+    }
+    cost
+}
+
+// The number `first` and d - 1 times s, with zeros after them: the cuts and the moduli.
+fn with_sides(d: usize, first: u32, s: u32) -> [u32; 5]
+    requires { ⌜ (2 ≤ d) × (d ≤ 3) ⌝ }
+    ensures { λ r. ⌜ r ≡ five (first ∷ replicate (d - 1) s) ⌝ }
+{
+    if d == 2 {
+        return [first, s, 0, 0, 0];
+    }
+    [first, s, s, 0, 0]
+}
+
+// The matrix: row 1 is zero; row 2 is 1 s-1 in two dimensions; in three, row 2 is 1 0 s-1 and row 3 is 0 1 s-1. Modulo s, the 1 is 0 where s is 1.
+fn matrix_of(d: usize, s: u32) -> [u32; 25]
+    requires { ⌜ (2 ≤ d) × (d ≤ 3) × (1 ≤ s) ⌝ }
+    ensures { λ r. ⌜ r ≡ take 25 (flat (diagonalMatrix d s) ++ replicate 25 0) ⌝ }
+{
+    let one = 1 % s;
+    let last = s - 1;
+    if d == 2 {
+        return [
+            0,
+            0,
+            0,
+            0,
+            0,
+            one,
+            last,
+            0,
+            0,
+            0,
+            0,
+            0,
+            0,
+            0,
+            0,
+            0,
+            0,
+            0,
+            0,
+            0,
+            0,
+            0,
+            0,
+            0,
+            0,
+        ];
+    }
+    [
+        0,
+        0,
+        0,
+        0,
+        0,
+        one,
+        0,
+        last,
+        0,
+        0,
+        0,
+        one,
+        last,
+        0,
+        0,
+        0,
+        0,
+        0,
+        0,
+        0,
+        0,
+        0,
+        0,
+        0,
+        0,
+    ]
+}
+
+// The plan with s cuts each way.
+fn plan_with(p: u32, s: u32, extents: &[u32], weights: &[u32]) -> Plan
+    requires { ⌜ (2 ≤ length (now extents)) × (length (now extents) ≤ 3) × (length (now weights) ≡ length (now extents)) × (1 ≤ s) × (s ≤ 4096) ⌝ }
+    ensures { λ r. ⌜ r ≡ planOf (diagonalPlan (jobWith p (length (now (extents .entry))) (now (extents .entry)) (now (weights .entry))) s) ⌝ }
+{
+    let d = extents.len();
+    Plan {
+        d: d,
+        p: p,
+        extents: padded(extents),
+        weights: padded(weights),
+        cuts: with_sides(d, s, s),
+        cost: cost_of(s, weights),
+        moduli: with_sides(d, 1, s),
+        matrix: matrix_of(d, s),
+        kind: 1,
+    }
+}
+
+// The answer to a job: its diagonal plan.
+pub fn diagonal_job(p: u32, d: usize, extents: &[u32], weights: &[u32]) -> Planned
+    ensures { λ r. ⌜ r ≡ plannedOf (diagonalAnswer (jobWith p d (now (extents .entry)) (now (weights .entry)))) ⌝ }
+{
+    if (d < 2) | (5 < d) {
+        return refused(1, 0);
+    }
+    if (p < 1) | (4096 < p) {
+        return refused(2, 0);
+    }
+    if 3 < d {
+        return refused(12, 0);
+    }
+    let s = side_of(d, p);
+    if p < s {
+        return refused(12, 0);
+    }
+    if (extents.len() != d) | (weights.len() != d) {
+        return refused(3, 0);
+    }
+    let outside = first_outside(extents);
+    if outside != 0 {
+        return refused(4, outside);
+    }
+    if !side_fits(s, extents) {
+        return refused(5, 0);
+    }
+    Planned {
+        number: 0,
+        place: 0,
+        plan: plan_with(p, s, extents, weights),
+    }
+}
