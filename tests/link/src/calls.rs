@@ -14,6 +14,25 @@ extern "C" {
         plan_length: usize,
     ) -> u64;
 
+    fn multipartition_diagonal(
+        processors: u32,
+        dimensions: u32,
+        extents: *const u32,
+        extents_length: usize,
+        weights: *const u32,
+        weights_length: usize,
+        plan: *mut u32,
+        plan_length: usize,
+    ) -> u64;
+
+    fn multipartition_hypercube_owner(
+        processors: u32,
+        position: *const u32,
+        position_length: usize,
+        answer: *mut u32,
+        answer_length: usize,
+    ) -> u64;
+
     fn multipartition_owner(
         plan: *const u32,
         plan_length: usize,
@@ -111,6 +130,33 @@ pub fn plan(p: u32, d: u32, extents: &[u32], weights: &[u32], plan: &mut [u32]) 
             weights.len(),
             plan.as_mut_ptr(),
             plan.len(),
+        )
+    }
+}
+
+pub fn diagonal(p: u32, d: u32, extents: &[u32], weights: &[u32], plan: &mut [u32]) -> u64 {
+    unsafe {
+        multipartition_diagonal(
+            p,
+            d,
+            extents.as_ptr(),
+            extents.len(),
+            weights.as_ptr(),
+            weights.len(),
+            plan.as_mut_ptr(),
+            plan.len(),
+        )
+    }
+}
+
+pub fn hypercube_owner(p: u32, position: &[u32], answer: &mut [u32]) -> u64 {
+    unsafe {
+        multipartition_hypercube_owner(
+            p,
+            position.as_ptr(),
+            position.len(),
+            answer.as_mut_ptr(),
+            answer.len(),
         )
     }
 }

@@ -1,9 +1,10 @@
 //! Calls beside the independent planner's answers to the same questions.
 
+use oracle::diagonal::diagonal_job;
 use oracle::plan::{plan_job, Plan};
 use oracle::refusal::{self, Refusal};
 use oracle::timetable::{self, Message};
-use oracle::{chains, neighbours, owners, slabs, tiles};
+use oracle::{chains, hypercube, neighbours, owners, slabs, tiles};
 
 use crate::calls;
 use crate::guarded::Guarded;
@@ -135,12 +136,45 @@ pub fn ask(lists: &mut Lists, list: &[u32], question: &Question, lent: &[u32]) -
 /// Plans a job, likewise.
 pub fn plan(lists: &mut Lists, job: &Job, lent: &[u32]) -> u64 {
     let planned = plan_job(job.p, job.d, &job.extents, &job.weights);
+    make(lists, job, lent, planned, calls::plan)
+}
+
+/// Asks for the diagonal plan of a job, likewise.
+pub fn diagonal(lists: &mut Lists, job: &Job, lent: &[u32]) -> u64 {
+    let planned = diagonal_job(job.p, job.d, &job.extents, &job.weights);
+    make(lists, job, lent, planned, calls::diagonal)
+}
+
+/// A call that makes a plan of a job.
+type Planner = fn(u32, u32, &[u32], &[u32], &mut [u32]) -> u64;
+
+/// Has a plan made, which is to be this one.
+fn make(
+    lists: &mut Lists,
+    job: &Job,
+    lent: &[u32],
+    planned: Result<Plan, Refusal>,
+    call: Planner,
+) -> u64 {
     let [extents, weights, lent_list] = lists.hold([&job.extents, &job.weights, lent]);
-    let returned = calls::plan(job.p, job.d, extents, weights, lent_list);
+    let returned = call(job.p, job.d, extents, weights, lent_list);
     assert_eq!(
         (returned, lent_list.to_vec()),
         outcome(planned.map(|plan| list_of(&plan).to_vec()), lent),
         "{job:?}"
+    );
+    returned
+}
+
+/// Asks who owns a tile of the hypercube layout, likewise.
+pub fn hypercube_owner(lists: &mut Lists, p: u32, position: &[u32], lent: &[u32]) -> u64 {
+    let answered = hypercube::owner(p, position).map(|processor| vec![processor]);
+    let [position, lent_list, _] = lists.hold([position, lent, &[]]);
+    let returned = calls::hypercube_owner(p, position, lent_list);
+    assert_eq!(
+        (returned, lent_list.to_vec()),
+        outcome(answered, lent),
+        "{position:?} of {p} processors"
     );
     returned
 }

@@ -12,7 +12,8 @@ pub const COST_LOW: usize = 17;
 pub const COST_HIGH: usize = 18;
 pub const MODULI: usize = 19;
 pub const MATRIX: usize = 24;
-pub const PLAN_LENGTH: usize = 49;
+pub const KIND: usize = 49;
+pub const PLAN_LENGTH: usize = 50;
 pub const ROW_LENGTH: usize = 5;
 
 pub type PlanList = [u32; PLAN_LENGTH];
@@ -31,6 +32,7 @@ pub fn list_of(plan: &Plan) -> PlanList {
     for (i, row) in plan.matrix.iter().enumerate() {
         list[MATRIX + i * ROW_LENGTH..][..ROW_LENGTH].copy_from_slice(row);
     }
+    list[KIND] = plan.kind;
     list
 }
 
@@ -47,6 +49,7 @@ pub fn plan_of(list: &[u32]) -> Option<Plan> {
         cost: u64::from(list[COST_LOW]) | u64::from(list[COST_HIGH]) << 32,
         moduli: five(MODULI),
         matrix: [0, 1, 2, 3, 4].map(|i| five(MATRIX + i * ROW_LENGTH)),
+        kind: list[KIND],
     })
 }
 

@@ -1,11 +1,12 @@
 //! Random jobs, plan lists and questions, many of them damaged.
 
 use oracle::cases;
+use oracle::diagonal::diagonal_job;
 use oracle::plan::{plan_job, Plan};
 use oracle::random::Random;
 
 use crate::plan_list::{
-    list_of, plan_of, CUTS, DIMENSIONS, EXTENTS, MATRIX, MODULI, PLAN_LENGTH, PROCESSORS,
+    list_of, plan_of, CUTS, DIMENSIONS, EXTENTS, KIND, MATRIX, MODULI, PLAN_LENGTH, PROCESSORS,
     ROW_LENGTH,
 };
 
@@ -129,10 +130,24 @@ pub fn any_numbers(random: &mut Random, count: usize) -> Vec<u32> {
     (0..count).map(|_| random.draw() as u32).collect()
 }
 
-/// A job of the comparison of printed plans, as numbers. Extents and weights share what follows d, so they
-/// are not d many if the line has too few or too many numbers.
+/// A job of the comparison of printed plans, as numbers.
 pub fn job(random: &mut Random) -> Job {
-    let line = String::from_utf8(cases::job(random)).expect("digits and blanks");
+    job_of(cases::job(random))
+}
+
+/// A job for a diagonal plan; one in four is made for the planner.
+pub fn job_for_diagonal(random: &mut Random) -> Job {
+    if random.once_in(4) {
+        job(random)
+    } else {
+        job_of(cases::diagonal(random))
+    }
+}
+
+/// The job of a line. Extents and weights share what follows d, so they are not d many if the line has too few or too
+/// many numbers.
+fn job_of(line: Vec<u8>) -> Job {
+    let line = String::from_utf8(line).expect("digits and blanks");
     let numbers: Vec<u32> = line
         .split_whitespace()
         .map(|word| word.parse().expect("a number of 32 bits"))
@@ -154,13 +169,36 @@ pub fn planned(random: &mut Random, count: usize) -> Vec<Plan> {
     plans.take(count).collect()
 }
 
+/// Diagonal plans of random jobs.
+pub fn diagonals(random: &mut Random, count: usize) -> Vec<Plan> {
+    let jobs = std::iter::repeat_with(|| job_for_diagonal(random));
+    let plans = jobs.filter_map(|job| diagonal_job(job.p, job.d, &job.extents, &job.weights).ok());
+    plans.take(count).collect()
+}
+
+/// A count of processors and a position for the hypercube question, or, once in a while, a count that does not suit it, a
+/// coordinate too large or another number of coordinates.
+pub fn hypercube(random: &mut Random) -> (u32, Vec<u32>) {
+    let e = random.between(0, 6) as u32;
+    let p = match random.between(0, 15) {
+        0 => *random.pick(&[0, 2, 8, 4097, u32::MAX]),
+        1 => another(random, 4u32.pow(e)),
+        _ => 4u32.pow(e),
+    };
+    let mut position: Vec<u32> = (0..3).map(|_| mostly_below(random, 2u32.pow(e))).collect();
+    if random.once_in(12) {
+        position.resize(random.between(0, 7) as usize, 0);
+    }
+    (p, position)
+}
+
 /// A number from 1 to `most`, small more often than not.
 fn factor(random: &mut Random, most: u64) -> u64 {
     let high = if random.once_in(3) { most } else { most.min(9) };
     random.between(1, high)
 }
 
-/// A plan in shape that no planner made: any cuts, any moduli that multiply to p, any matrix, and anything
+/// A plan in shape that no planner made: any cuts, any moduli that multiply to p, any matrix, either kind, and anything
 /// in the places past d.
 pub fn made_by_hand(random: &mut Random) -> Plan {
     let d = random.between(2, 5) as usize;
@@ -181,6 +219,7 @@ pub fn made_by_hand(random: &mut Random) -> Plan {
     }
     list[DIMENSIONS] = d as u32;
     list[PROCESSORS] = p as u32;
+    list[KIND] = random.between(0, 1) as u32;
     plan_of(&list).expect("a list of the right length")
 }
 
@@ -191,7 +230,7 @@ pub fn plan_list(random: &mut Random, pool: &[Plan]) -> Vec<u32> {
     } else {
         list_of(&made_by_hand(random)).to_vec()
     };
-    match random.between(0, 15) {
+    match random.between(0, 16) {
         0..=8 => (),
         9..=13 => {
             for _ in 0..random.between(1, 3) {
@@ -200,12 +239,15 @@ pub fn plan_list(random: &mut Random, pool: &[Plan]) -> Vec<u32> {
             }
         }
         14 => list = any_numbers(random, PLAN_LENGTH),
+        // "A kind above 1 is a 6."
+        15 => list[KIND] = *random.pick(&[2, 3, u32::MAX]),
         _ => {
             let length = *random.pick(&[
                 0,
                 1,
                 MATRIX,
-                PLAN_LENGTH - 1,
+                // How long a list was before it had a kind.
+                KIND,
                 PLAN_LENGTH + 1,
                 2 * PLAN_LENGTH,
             ]);

@@ -5,14 +5,16 @@ use std::collections::{BTreeMap, HashMap};
 use std::mem::discriminant;
 
 use link::calls;
-use link::compared::{ask, chain, plan, Lists};
+use link::compared::{ask, chain, diagonal, hypercube_owner, plan, Lists};
 use link::guarded::ROOM;
-use link::plan_list::{list_of, plan_of, PlanList, CUTS, DIMENSIONS, PLAN_LENGTH};
-use link::questions::{
-    any_numbers, dimensions, job, lent, made_by_hand, move_to_limit, plan_list, planned, question,
-    tiles_in_slab, timetable, Question,
+use link::plan_list::{
+    list_of, plan_of, PlanList, COST_HIGH, COST_LOW, CUTS, DIMENSIONS, KIND, PLAN_LENGTH,
 };
-use oracle::plan::Plan;
+use link::questions::{
+    any_numbers, diagonals, dimensions, hypercube, job, job_for_diagonal, lent, made_by_hand,
+    move_to_limit, plan_list, planned, question, tiles_in_slab, timetable, Question,
+};
+use oracle::plan::{Plan, DIAGONAL};
 use oracle::random::Random;
 use oracle::timetable::{other_extents, Message, Visit};
 
@@ -32,10 +34,15 @@ impl Seen {
     }
 }
 
+/// Plans of the planner, and half as many diagonal plans.
+fn pool(random: &mut Random) -> Vec<Plan> {
+    [planned(random, 400), diagonals(random, 200)].concat()
+}
+
 #[test]
 fn questions() {
     let mut random = Random::new(1);
-    let pool = planned(&mut random, 400);
+    let pool = pool(&mut random);
     let mut lists = Lists::default();
     let mut seen: HashMap<_, (Seen, &[u32])> = HashMap::new();
     for _ in 0..1_500_000 {
@@ -54,11 +61,12 @@ fn questions() {
     }
 }
 
-/// Tile to position and back, steps there and back, and the edge, in plans of the planner and in plans made by hand.
+/// Tile to position and back, steps there and back, and the edge, in plans of the planner, in diagonal plans and in plans
+/// made by hand.
 #[test]
 fn tiles_both_ways() {
     let mut random = Random::new(5);
-    let pool = planned(&mut random, 400);
+    let pool = pool(&mut random);
     let mut edges = 0;
     for _ in 0..100_000 {
         let plan = match random.between(0, 1) {
@@ -130,7 +138,7 @@ fn in_shape(random: &mut Random, pool: &[Plan]) -> (Plan, usize) {
 #[test]
 fn timetables() {
     let mut random = Random::new(6);
-    let pool = planned(&mut random, 400);
+    let pool = pool(&mut random);
     let mut lists = Lists::default();
     let mut seen = Seen::default();
     let (mut large, mut largest_product, mut least_refused) = (0, 0, 0);
@@ -194,13 +202,13 @@ fn largest_timetables() {
 
 /// What the calls say of one step, held against what they say of the steps before and after: "what a processor sends
 /// after a step is exactly what its receiver expects before the next, and except after the last step the lengths of
-/// one step add up to the product of the other extents", also in plans made by hand.
+/// one step add up to the product of the other extents", also in diagonal plans and in plans made by hand.
 #[test]
 fn messages_meet() {
     let mut random = Random::new(7);
-    let pool = planned(&mut random, 400);
-    let (mut by_planner, mut by_hand, mut large) = (0, 0, 0);
-    while by_planner + by_hand < 4_000 {
+    let pool = pool(&mut random);
+    let (mut by_planner, mut diagonal, mut by_hand, mut large) = (0, 0, 0, 0);
+    while by_planner + diagonal + by_hand < 4_000 {
         let (plan, k) = in_shape(&mut random, &pool);
         let product = other_extents(&plan, k);
         let in_slab = tiles_in_slab(&plan, k);
@@ -251,13 +259,13 @@ fn messages_meet() {
         assert_eq!(tiles, in_slab, "{plan:?}");
         assert_eq!(sent, if step == last { 0 } else { product }, "{plan:?}");
         assert_eq!(expected, if step == 0 { 0 } else { product }, "{plan:?}");
-        if even {
-            by_planner += 1;
-        } else {
-            by_hand += 1;
+        match (even, plan.kind) {
+            (true, DIAGONAL) => diagonal += 1,
+            (true, _) => by_planner += 1,
+            _ => by_hand += 1,
         }
     }
-    assert!(by_planner > 1_000 && by_hand > 1_000 && large == 12);
+    assert!(by_planner > 1_000 && diagonal > 300 && by_hand > 1_000 && large == 12);
 }
 
 /// What a processor does in one step. Nobody is three times 0.
@@ -292,9 +300,154 @@ fn jobs() {
 }
 
 #[test]
+fn jobs_for_diagonal_plans() {
+    let mut random = Random::new(8);
+    let mut lists = Lists::default();
+    let mut seen = Seen::default();
+    for _ in 0..50_000 {
+        let job = job_for_diagonal(&mut random);
+        let lent = lent(&mut random, PLAN_LENGTH);
+        seen.note(diagonal(&mut lists, &job, &lent));
+    }
+    seen.check(&[0, 1, 2, 3, 4, 5, 9, 12], 100);
+}
+
+/// "Diagonal plans are shown even and never cheaper than the planner's", which takes every job that has a diagonal plan.
+#[test]
+fn the_planner_costs_no_more() {
+    let mut random = Random::new(9);
+    let (mut equal, mut dearer) = (0, 0);
+    while equal + dearer < 4_000 {
+        let job = job_for_diagonal(&mut random);
+        let (mut ours, mut theirs) = ([77; PLAN_LENGTH], [77; PLAN_LENGTH]);
+        let (p, d, extents, weights) = (job.p, job.d, &job.extents, &job.weights);
+        if calls::diagonal(p, d, extents, weights, &mut theirs) != 0 {
+            continue;
+        }
+        assert_eq!(calls::plan(p, d, extents, weights, &mut ours), 0, "{job:?}");
+        assert_eq!((ours[KIND], theirs[KIND]), (0, 1));
+        let (cost, other) = (cost(&ours), cost(&theirs));
+        assert!(cost <= other, "{job:?}");
+        equal += u32::from(cost == other);
+        dearer += u32::from(cost < other);
+    }
+    assert!(equal > 1_000 && dearer > 50, "{equal}, {dearer}");
+}
+
+fn cost(list: &PlanList) -> u64 {
+    u64::from(list[COST_LOW]) | u64::from(list[COST_HIGH]) << 32
+}
+
+/// The list of the diagonal plan with so many slabs each way, of as few elements as can be.
+fn diagonal_list(d: usize, slabs: u32) -> PlanList {
+    let mut list = [77; PLAN_LENGTH];
+    let (p, extents, weights) = (slabs.pow(d as u32 - 1), vec![slabs; d], vec![1; d]);
+    let returned = calls::diagonal(p, d as u32, &extents, &weights, &mut list);
+    assert_eq!(returned, 0, "{slabs} slabs each way, {d} dimensions");
+    list
+}
+
+/// "The owner is (i1 - i2) modulo p", and "((i1 - i3) modulo s)*s + ((i2 - i3) modulo s)".
+fn diagonal_owner(position: &[u32], slabs: u32) -> u32 {
+    let number = |i: u32, j: u32| (i64::from(i) - i64::from(j)).rem_euclid(i64::from(slabs)) as u32;
+    match *position {
+        [i1, i2] => number(i1, i2),
+        [i1, i2, i3] => number(i1, i3) * slabs + number(i2, i3),
+        _ => panic!("{position:?}"),
+    }
+}
+
+fn owner(list: &PlanList, position: &[u32]) -> u32 {
+    let mut answer = [77];
+    assert_eq!(calls::owner(list, position, &mut answer), 0, "{list:?}");
+    answer[0]
+}
+
+/// Owners by the formulas, and one tile of every slab for each processor, which is tiles / (bk * p).
+#[test]
+fn owners_of_diagonal_plans() {
+    for (d, most) in [(2, 70), (3, 16)] {
+        for slabs in 1..=most {
+            let list = diagonal_list(d, slabs);
+            let p = slabs.pow(d as u32 - 1) as usize;
+            let mut owned = vec![0; d * slabs as usize * p];
+            for tile in 1..=slabs.pow(d as u32) {
+                let position = at(&list, tile);
+                let q = owner(&list, &position);
+                assert_eq!(q, diagonal_owner(&position, slabs), "{list:?}");
+                for (k, &slab) in position.iter().enumerate() {
+                    owned[(k * slabs as usize + slab as usize) * p + q as usize] += 1;
+                }
+            }
+            assert!(owned.iter().all(|&tiles| tiles == 1), "{list:?}");
+        }
+    }
+    let mut random = Random::new(10);
+    for (d, slabs) in [(2, 4096), (2, 4095), (2, 997), (3, 64), (3, 63), (3, 37)] {
+        let list = diagonal_list(d, slabs);
+        for _ in 0..20_000 {
+            let tile = random.between(1, u64::from(slabs).pow(d as u32)) as u32;
+            let position = at(&list, tile);
+            let expected = diagonal_owner(&position, slabs);
+            assert_eq!(owner(&list, &position), expected, "{list:?}");
+        }
+    }
+}
+
+/// All positions of the small grids; then random questions on all of them, some damaged.
+#[test]
+fn hypercube_owners() {
+    let mut lists = Lists::default();
+    for p in [1, 4, 16, 64] {
+        for position in hypercube_positions(p) {
+            assert_eq!(hypercube_owner(&mut lists, p, &position, &[77]), 0);
+        }
+    }
+    let mut random = Random::new(11);
+    let mut seen = Seen::default();
+    for _ in 0..500_000 {
+        let (p, position) = hypercube(&mut random);
+        let lent = lent(&mut random, 1);
+        seen.note(hypercube_owner(&mut lists, p, &position, &lent));
+    }
+    seen.check(&[0, 2, 8, 9, 12], 5_000);
+}
+
+/// The positions of the hypercube layout, which has as many slabs each way as the square root of p.
+fn hypercube_positions(p: u32) -> impl Iterator<Item = [u32; 3]> {
+    let slabs = p.isqrt();
+    (0..slabs.pow(3)).map(move |n| [n / slabs / slabs, n / slabs % slabs, n % slabs])
+}
+
+/// "Owners of hypercube tiles with a common face along i1 or along i2 differ in just one bit and along i3 in just two."
+#[test]
+fn bits_of_hypercube_owners() {
+    for p in [1, 4, 16, 64, 256, 1024, 4096] {
+        let owner = |position: &[u32; 3]| {
+            let mut answer = [77];
+            let returned = calls::hypercube_owner(p, position, &mut answer);
+            assert_eq!(returned, 0, "{position:?} of {p} processors");
+            answer[0]
+        };
+        for position in hypercube_positions(p) {
+            let mine = owner(&position);
+            assert!(mine < p);
+            for (k, bits) in [1, 1, 2].into_iter().enumerate() {
+                let mut above = position;
+                above[k] += 1;
+                if above[k] < p.isqrt() {
+                    let apart = (mine ^ owner(&above)).count_ones();
+                    assert_eq!(apart, bits, "{position:?} of {p} processors");
+                }
+            }
+        }
+    }
+}
+
+#[test]
 fn chain_lists() {
     let mut random = Random::new(3);
-    let mut pool = planned(&mut random, 400);
+    let mut pool = pool(&mut random);
     pool.retain(|plan| plan.tiles() < ROOM as u128);
     let mut lists = Lists::default();
     let mut seen = Seen::default();
@@ -317,12 +470,15 @@ fn chain_lists() {
 fn lists_of_every_length() {
     let mut random = Random::new(4);
     let mut lists = Lists::default();
-    let good = list_of(&planned(&mut random, 1)[0]);
+    let good = [planned(&mut random, 1), diagonals(&mut random, 1)].concat();
     for length in 0..2 * PLAN_LENGTH {
         for _ in 0..200 {
             let list = match random.between(0, 1) {
                 0 => any_numbers(&mut random, length),
-                _ => good.iter().copied().cycle().take(length).collect(),
+                _ => {
+                    let list = list_of(random.pick(&good));
+                    list.into_iter().cycle().take(length).collect()
+                }
             };
             let question = question(&mut random, &list);
             let any = any_numbers(&mut random, length);

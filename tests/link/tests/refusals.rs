@@ -2,16 +2,25 @@
 //! alone.
 
 use link::calls::{
-    chains, neighbour, owner, plan, slab, slab_of, step, tile_number, tile_position, timetable,
+    chains, diagonal, hypercube_owner, neighbour, owner, plan, slab, slab_of, step, tile_number,
+    tile_position, timetable,
 };
 use link::plan_list::{
-    PlanList, CUTS, DIMENSIONS, EXTENTS, MATRIX, MODULI, PLAN_LENGTH, PROCESSORS, ROW_LENGTH,
+    PlanList, COST_HIGH, COST_LOW, CUTS, DIMENSIONS, EXTENTS, KIND, MATRIX, MODULI, PLAN_LENGTH,
+    PROCESSORS, ROW_LENGTH, WEIGHTS,
 };
 
 /// The plan of 4 processors on a grid of 8 by 8 by 8: cuts 2 2 2.
 fn planned() -> PlanList {
     let mut list = [7; PLAN_LENGTH];
     assert_eq!(plan(4, 3, &[8; 3], &[1; 3], &mut list), 0);
+    list
+}
+
+/// The diagonal plan of the same job.
+fn planned_diagonally() -> PlanList {
+    let mut list = [7; PLAN_LENGTH];
+    assert_eq!(diagonal(4, 3, &[8; 3], &[1; 3], &mut list), 0);
     list
 }
 
@@ -44,27 +53,109 @@ fn jobs() {
     refused::<0>(9, |list| plan(4, 3, &[8; 3], &[1; 3], list));
 }
 
+/// "12, p or d doesn't suit the layout, after 2 and before 3; a cut above its extent stays a 5."
+#[test]
+fn jobs_for_diagonal_plans() {
+    refused::<PLAN_LENGTH>(1, |list| diagonal(0, 6, &[], &[], list));
+    refused::<PLAN_LENGTH>(1, |list| diagonal(0, 1, &[], &[], list));
+    refused::<0>(1, |list| diagonal(5, u32::MAX, &[], &[], list));
+    refused::<PLAN_LENGTH>(2, |list| diagonal(0, 4, &[], &[], list));
+    refused::<PLAN_LENGTH>(2, |list| diagonal(4097, 3, &[8; 3], &[1; 3], list));
+    refused::<0>(2, |list| diagonal(u32::MAX, 2, &[0; 2], &[1; 2], list));
+    for d in [4, 5] {
+        for p in [1, 4, 16, 4096] {
+            let (extents, weights) = (vec![4096; d], vec![1; d]);
+            refused::<PLAN_LENGTH>(12, |list| diagonal(p, d as u32, &extents, &weights, list));
+            refused::<0>(12, |list| diagonal(p, d as u32, &[0], &weights, list));
+        }
+    }
+    for p in [2, 3, 5, 6, 8, 10, 15, 17, 24, 4095] {
+        refused::<PLAN_LENGTH>(12, |list| diagonal(p, 3, &[4096; 3], &[1; 3], list));
+        refused::<PLAN_LENGTH>(12, |list| diagonal(p, 3, &[0; 2], &[1; 3], list));
+        refused::<0>(12, |list| diagonal(p, 3, &[0; 3], &[], list));
+    }
+    refused::<PLAN_LENGTH>(3, |list| diagonal(4, 3, &[0; 2], &[1; 3], list));
+    refused::<PLAN_LENGTH>(3, |list| diagonal(4, 3, &[0; 3], &[1; 2], list));
+    refused::<PLAN_LENGTH>(3, |list| diagonal(6, 2, &[0; 3], &[1; 2], list));
+    refused::<0>(3, |list| diagonal(6, 2, &[0; 2], &[1; 3], list));
+    refused::<PLAN_LENGTH>(4 | 2 << 32, |list| diagonal(8, 2, &[9, 0], &[1; 2], list));
+    refused::<PLAN_LENGTH>(4 | 2 << 32, |list| {
+        diagonal(8, 2, &[7, 1_000_001], &[1; 2], list)
+    });
+    refused::<0>(4 | 3 << 32, |list| {
+        diagonal(4, 3, &[1, 1, 0], &[1; 3], list)
+    });
+    refused::<PLAN_LENGTH>(5, |list| diagonal(4096, 3, &[64, 64, 63], &[1; 3], list));
+    refused::<PLAN_LENGTH>(5, |list| diagonal(8, 2, &[7, 9], &[0; 2], list));
+    // The planner has 1 4 4 for it.
+    refused::<PLAN_LENGTH>(5, |list| diagonal(4, 3, &[1, 4, 4], &[1; 3], list));
+    refused::<0>(5, |list| diagonal(4, 3, &[8, 8, 1], &[1; 3], list));
+    refused::<{ PLAN_LENGTH - 1 }>(9, |list| diagonal(4, 3, &[8; 3], &[1; 3], list));
+    refused::<{ PLAN_LENGTH + 1 }>(9, |list| diagonal(4, 3, &[8; 3], &[1; 3], list));
+    refused::<0>(9, |list| diagonal(4, 3, &[8; 3], &[1; 3], list));
+}
+
+/// "p = 4 to the power e with e from 0 to 6 [...]: three dimensions of 2 to the power e slabs."
+#[test]
+fn hypercube_questions() {
+    for p in [0, 4097, 16384, u32::MAX] {
+        refused::<1>(2, |answer| hypercube_owner(p, &[0; 3], answer));
+        refused::<0>(2, |answer| hypercube_owner(p, &[], answer));
+    }
+    for p in [2, 3, 5, 8, 32, 128, 512, 2048, 4095] {
+        refused::<1>(12, |answer| hypercube_owner(p, &[0; 3], answer));
+        refused::<0>(12, |answer| hypercube_owner(p, &[u32::MAX; 4], answer));
+    }
+    for e in 0..=6 {
+        let (p, slabs) = (4u32.pow(e), 2u32.pow(e));
+        for number in [slabs, slabs + 1, u32::MAX] {
+            for k in 0..3 {
+                let mut position = [slabs - 1; 3];
+                position[k] = number;
+                refused::<1>(8, |answer| hypercube_owner(p, &position, answer));
+                refused::<0>(8, |answer| hypercube_owner(p, &position, answer));
+            }
+        }
+        for position in [&[0; 5][..], &[0; 4], &[0; 2], &[0], &[]] {
+            refused::<1>(8, |answer| hypercube_owner(p, position, answer));
+            refused::<0>(8, |answer| hypercube_owner(p, position, answer));
+        }
+        refused::<0>(9, |answer| hypercube_owner(p, &[slabs - 1; 3], answer));
+        refused::<2>(9, |answer| hypercube_owner(p, &[slabs - 1; 3], answer));
+        refused::<3>(9, |answer| hypercube_owner(p, &[0; 3], answer));
+    }
+}
+
+/// Checks that every question about this plan list is refused with 6.
+fn no_plan(list: &[u32]) {
+    refused::<1>(6, |answer| owner(list, &[0; 3], answer));
+    refused::<2>(6, |answer| neighbour(list, 0, 1, 1, answer));
+    refused::<2>(6, |answer| slab(list, 1, 0, answer));
+    refused::<1>(6, |answer| slab_of(list, 1, 0, answer));
+    refused::<1>(6, |answer| tile_number(list, &[0; 3], answer));
+    refused::<3>(6, |answer| tile_position(list, 1, answer));
+    refused::<4>(6, |answer| step(list, &[0; 3], 1, 1, answer));
+    refused::<8>(6, |answer| timetable(list, 1, 1, 0, 0, answer));
+    refused::<0>(6, |answer| timetable(list, 0, 1, 9, 9, answer));
+    refused::<4>(6, |heads| chains(list, heads, &mut [0; 8]));
+    refused::<8>(6, |nexts| chains(list, &mut [0; 4], nexts));
+}
+
+/// Among them lists of 49 places, as they were before they had a kind.
 #[test]
 fn plan_lists_of_another_length() {
-    let list = [planned().to_vec(), vec![0]].concat();
-    for plan in [&list[..0], &list[..PLAN_LENGTH - 1], &list[..]] {
-        refused::<1>(6, |answer| owner(plan, &[0; 3], answer));
-        refused::<2>(6, |answer| neighbour(plan, 0, 1, 1, answer));
-        refused::<2>(6, |answer| slab(plan, 1, 0, answer));
-        refused::<1>(6, |answer| slab_of(plan, 1, 0, answer));
-        refused::<1>(6, |answer| tile_number(plan, &[0; 3], answer));
-        refused::<3>(6, |answer| tile_position(plan, 1, answer));
-        refused::<4>(6, |answer| step(plan, &[0; 3], 1, 1, answer));
-        refused::<8>(6, |answer| timetable(plan, 1, 1, 0, 0, answer));
-        refused::<0>(6, |answer| timetable(plan, 0, 1, 9, 9, answer));
-        refused::<4>(6, |heads| chains(plan, heads, &mut [0; 8]));
-        refused::<8>(6, |nexts| chains(plan, &mut [0; 4], nexts));
+    assert_eq!((KIND, PLAN_LENGTH), (49, 50));
+    for list in [planned(), planned_diagonally()] {
+        let longer = [list.to_vec(), vec![0]].concat();
+        for length in [0, KIND, PLAN_LENGTH + 1] {
+            no_plan(&longer[..length]);
+        }
     }
 }
 
 #[test]
 fn plans_out_of_shape() {
-    // d, p, an extent, a cut below and above its range, a modulus, the moduli's product, an entry
+    // d, p, an extent, a cut below and above its range, a modulus, the moduli's product, an entry, the kind
     let damage = [
         (DIMENSIONS, 1),
         (DIMENSIONS, 6),
@@ -82,21 +173,15 @@ fn plans_out_of_shape() {
         (MATRIX, 1),
         (MATRIX + ROW_LENGTH + 2, 2),
         (MATRIX + 2 * ROW_LENGTH + 2, 2),
+        (KIND, 2),
+        (KIND, 3),
+        (KIND, u32::MAX),
     ];
     for (place, number) in damage {
-        let mut list = planned();
-        list[place] = number;
-        refused::<1>(6, |answer| owner(&list, &[0; 3], answer));
-        refused::<2>(6, |answer| neighbour(&list, 0, 1, 1, answer));
-        refused::<2>(6, |answer| slab(&list, 1, 0, answer));
-        refused::<1>(6, |answer| slab_of(&list, 1, 0, answer));
-        refused::<1>(6, |answer| tile_number(&list, &[0; 3], answer));
-        refused::<3>(6, |answer| tile_position(&list, 1, answer));
-        refused::<4>(6, |answer| step(&list, &[0; 3], 1, 1, answer));
-        refused::<8>(6, |answer| timetable(&list, 1, 1, 0, 0, answer));
-        refused::<0>(6, |answer| timetable(&list, 0, 1, 9, 9, answer));
-        refused::<4>(6, |heads| chains(&list, heads, &mut [0; 8]));
-        refused::<8>(6, |nexts| chains(&list, &mut [0; 4], nexts));
+        for mut list in [planned(), planned_diagonally()] {
+            list[place] = number;
+            no_plan(&list);
+        }
     }
 }
 
@@ -256,4 +341,86 @@ fn an_uncut_dimension_has_no_neighbour() {
     assert_eq!((neighbour(&list, 4, 1, 0, &mut two), two), (0, [0, 0]));
     let (mut eight, told) = ([77; 8], [0, 5, 0, 0, 0, 0, 0, 0]);
     assert_eq!((timetable(&list, 1, 0, 0, 4, &mut eight), eight), (0, told));
+}
+
+#[test]
+fn answers_of_the_first_diagonal_plan() {
+    let list = planned_diagonally();
+    // As the planner's but for the matrix and the kind.
+    let mut expected = planned();
+    expected[MATRIX + ROW_LENGTH..][..3].copy_from_slice(&[1, 0, 1]);
+    expected[MATRIX + 2 * ROW_LENGTH..][..3].copy_from_slice(&[0, 1, 1]);
+    expected[KIND] = 1;
+    assert_eq!(list, expected);
+    let mut one = [77];
+    for (tile, processor) in [0, 3, 1, 2, 2, 1, 3, 0].into_iter().enumerate() {
+        let mut position = [77; 3];
+        assert_eq!(tile_position(&list, tile as u32 + 1, &mut position), 0);
+        assert_eq!((owner(&list, &position, &mut one), one), (0, [processor]));
+    }
+    let mut two = [77; 2];
+    assert_eq!((neighbour(&list, 0, 3, 1, &mut two), two), (0, [1, 3]));
+    assert_eq!((neighbour(&list, 0, 2, 0, &mut two), two), (0, [1, 1]));
+    assert_eq!((slab(&list, 3, 1, &mut two), two), (0, [4, 8]));
+    assert_eq!((slab_of(&list, 3, 3, &mut one), one), (0, [0]));
+    let mut eight = [77; 8];
+    assert_eq!(
+        (timetable(&list, 3, 1, 0, 2, &mut eight), eight),
+        (0, [0, 1, 1, 1, 16, 0, 0, 0])
+    );
+    let (mut heads, mut nexts) = ([77; 4], [77; 8]);
+    assert_eq!(chains(&list, &mut heads, &mut nexts), 0);
+    assert_eq!((heads, nexts), ([1, 3, 4, 2], [8, 7, 6, 5, 0, 0, 0, 0]));
+}
+
+#[test]
+fn diagonal_plans() {
+    let mut list = [77; PLAN_LENGTH];
+    assert_eq!(diagonal(3, 2, &[9, 9], &[1, 1], &mut list), 0);
+    let mut expected = [0; PLAN_LENGTH];
+    expected[..4].copy_from_slice(&[2, 3, 9, 9]);
+    expected[WEIGHTS..][..2].copy_from_slice(&[1, 1]);
+    expected[CUTS..][..2].copy_from_slice(&[3, 3]);
+    expected[COST_LOW] = 4;
+    expected[MODULI..][..2].copy_from_slice(&[1, 3]);
+    expected[MATRIX + ROW_LENGTH..][..2].copy_from_slice(&[1, 2]);
+    expected[KIND] = 1;
+    assert_eq!(list, expected);
+
+    // Modulo 1 every entry is 0.
+    assert_eq!(diagonal(1, 2, &[1, 1], &[5, 7], &mut list), 0);
+    let mut expected = [0; PLAN_LENGTH];
+    expected[..4].copy_from_slice(&[2, 1, 1, 1]);
+    expected[WEIGHTS..][..2].copy_from_slice(&[5, 7]);
+    expected[CUTS..][..2].copy_from_slice(&[1, 1]);
+    expected[MODULI..][..2].copy_from_slice(&[1, 1]);
+    expected[KIND] = 1;
+    assert_eq!(list, expected);
+
+    assert_eq!(diagonal(9, 3, &[9; 3], &[1, 2, 3], &mut list), 0);
+    assert_eq!((list[COST_LOW], list[COST_HIGH]), (12, 0));
+    assert_eq!(diagonal(4096, 3, &[64; 3], &[1; 3], &mut list), 0);
+    assert_eq!((list[COST_LOW], list[COST_HIGH]), (189, 0));
+    // 2 * 4095 * 4,294,967,295
+    let most = [u32::MAX; 2];
+    assert_eq!(diagonal(4096, 2, &[4096; 2], &most, &mut list), 0);
+    assert_eq!((list[COST_LOW], list[COST_HIGH]), (4_294_959_106, 8189));
+}
+
+#[test]
+fn hypercube_owners() {
+    let figures = [
+        (1, [0, 0, 0], 0),
+        (4, [1, 0, 1], 2),
+        (16, [3, 0, 2], 13),
+        (16, [1, 2, 3], 4),
+        (64, [5, 6, 7], 62),
+        (4096, [63, 63, 63], 2145),
+        (4096, [0, 0, 63], 2080),
+    ];
+    for (p, position, processor) in figures {
+        let mut one = [77];
+        let returned = hypercube_owner(p, &position, &mut one);
+        assert_eq!((returned, one), (0, [processor]), "{p}, {position:?}");
+    }
 }

@@ -1,4 +1,5 @@
 //! Inputs for the comparison: those of document 01, all short texts, random jobs, damaged lines.
+//! Also random jobs for diagonal plans, which no text asks for.
 
 use crate::cuts::elementary;
 use crate::random::Random;
@@ -93,6 +94,35 @@ pub fn job(random: &mut Random) -> Vec<u8> {
         6..=7 => wide_job(random),
         _ => tight_job(random),
     };
+    if random.once_in(8) {
+        spoil(random, &mut numbers);
+    }
+    line(&numbers)
+}
+
+/// A job line for a diagonal plan (document 02, c): mostly one that suits the layout, often just so or
+/// failing by one, and some with refusals 1 to 4.
+pub fn diagonal(random: &mut Random) -> Vec<u8> {
+    let d = random.between(2, 3) as usize;
+    let side = match (d, random.between(0, 2)) {
+        (2, 0) => processors(random),
+        (3, 0) => random.between(1, 8),
+        _ => random.between(1, 64),
+    };
+    let most = side + *random.pick(&[0, 1, 9, 1000, 1_000_000 - side]);
+    let mut p = side.pow(d as u32 - 1);
+    let mut extents: Vec<u64> = (0..d).map(|_| random.between(side, most)).collect();
+    let k = random.between(0, d as u64 - 1) as usize;
+    match random.between(0, 11) {
+        0 => extents[k] = side - 1,
+        1 => p += 1,
+        2 => p -= 1,
+        3 => p = random.between(1, 4096),
+        4 => extents.resize(random.between(4, 5) as usize, side),
+        _ => (),
+    }
+    let weights = weights(random, extents.len());
+    let mut numbers = numbers(p, extents, weights);
     if random.once_in(8) {
         spoil(random, &mut numbers);
     }
@@ -250,7 +280,9 @@ fn damage(random: &mut Random, text: &mut Vec<u8>) {
 #[cfg(test)]
 mod tests {
     use super::*;
+    use crate::diagonal::diagonal_job;
     use crate::print::answer;
+    use crate::text::read;
     use std::collections::BTreeMap;
 
     /// How often each refusal, or a plan, comes out.
@@ -279,6 +311,23 @@ mod tests {
             );
         }
         assert!(!counts.contains_key("10"));
+    }
+
+    #[test]
+    fn jobs_for_diagonal_plans_meet_every_check() {
+        let mut random = Random::new(10);
+        let mut counts = BTreeMap::new();
+        for _ in 0..3000 {
+            let numbers = read(&diagonal(&mut random)).expect("a readable line");
+            let (p, d, rest) = (numbers[0], numbers[1], &numbers[2..]);
+            let (extents, weights) = rest.split_at(rest.len() / 2);
+            let answer = diagonal_job(p, d, extents, weights);
+            let number = answer.map_or_else(|refusal| refusal.number, |_| 0);
+            *counts.entry(number).or_insert(0) += 1;
+        }
+        assert!(counts.keys().eq(&[0, 1, 2, 3, 4, 5, 12]), "{counts:?}");
+        assert!(counts.values().all(|&count| count >= 10), "{counts:?}");
+        assert!(counts[&0] >= 1000 && counts[&12] >= 100, "{counts:?}");
     }
 
     #[test]

@@ -228,7 +228,8 @@ impl Counts {
 #[cfg(test)]
 mod tests {
     use super::*;
-    use crate::print::answer;
+    use crate::diagonal::diagonal_job;
+    use crate::print::{answer, printed};
 
     fn look(text: &str) -> Result<(), String> {
         inspect(8, &[9; 3], &[1; 3], text, &mut Random::new(1))
@@ -237,6 +238,21 @@ mod tests {
     #[test]
     fn a_right_plan_passes() {
         assert_eq!(look(&answer(b"8 3 9 9 9 1 1 1\n")), Ok(()));
+    }
+
+    #[test]
+    fn diagonal_plans_pass() {
+        let mut random = Random::new(2);
+        for (d, sides) in [(2, 1..=170), (3, 1..=30)] {
+            for side in sides {
+                let p = u32::pow(side, d - 1);
+                let (extents, weights) = ([side + side % 3; 3], [5, 0, 7]);
+                let (extents, weights) = (&extents[..d as usize], &weights[..d as usize]);
+                let plan = diagonal_job(p, d, extents, weights).unwrap();
+                let looked = inspect(p, extents, weights, &printed(&plan), &mut random);
+                assert_eq!(looked, Ok(()), "{plan:?}");
+            }
+        }
     }
 
     #[test]

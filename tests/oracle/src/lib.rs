@@ -1,4 +1,4 @@
-//! Document 01 with requests a and b of document 02, written down a second time in plain Rust, to
+//! Document 01 with requests a, b and c of document 02, written down a second time in plain Rust, to
 //! test the planner against.
 //!
 //! Everything here follows the definitions literally and prefers the slow and obvious way:
@@ -7,7 +7,8 @@
 //! and reduced at the end, chains are made from each processor's list of tiles, the timetable looks
 //! at every tile of a slab, and the place of refusal 10 is looked for beginning by beginning.
 //!
-//! The modules stand in document 01's order, the timetable behind what it asks.
+//! The modules stand in document 01's order, the timetable and the two older layouts behind what they
+//! ask.
 
 pub mod numbers;
 pub mod refusal;
@@ -22,6 +23,8 @@ pub mod owners;
 pub mod slabs;
 pub mod tiles;
 
+pub mod diagonal;
+pub mod hypercube;
 pub mod timetable;
 
 pub mod print;

@@ -5,7 +5,8 @@ use crate::matrix;
 use crate::refusal::{self, Refusal};
 
 /// "A plan holds d, p, extents, weights, cuts, cost, moduli, matrix. Places past d are zero in the
-/// planner's answer and are never read."
+/// planner's answer and are never read." With it "a kind field: 0 for the planner's, 1 for diagonal"
+/// (document 02, c).
 #[derive(Clone, Debug, PartialEq, Eq)]
 pub struct Plan {
     pub d: u32,
@@ -16,15 +17,22 @@ pub struct Plan {
     pub cost: u64,
     pub moduli: [u32; 5],
     pub matrix: [[u32; 5]; 5],
+    pub kind: u32,
 }
+
+/// The kind of the planner's plans.
+pub const PLANNERS: u32 = 0;
+/// The kind of diagonal plans.
+pub const DIAGONAL: u32 = 1;
 
 /// A job becomes a plan, or is refused with the first number of the table that applies.
 pub fn plan_job(p: u32, d: u32, extents: &[u32], weights: &[u32]) -> Result<Plan, Refusal> {
-    check_job(p, d, extents, weights)?;
+    check_counts(p, d)?;
+    check_lists(d, extents, weights)?;
     let chosen = cuts::cheapest(p, extents, weights).ok_or(refusal::NO_CUTS)?;
     let moduli = matrix::moduli(p, &chosen);
     let rows = matrix::matrix(&chosen, &moduli);
-    let mut plan = Plan {
+    Ok(Plan {
         d,
         p,
         extents: padded(extents),
@@ -32,22 +40,24 @@ pub fn plan_job(p: u32, d: u32, extents: &[u32], weights: &[u32]) -> Result<Plan
         cuts: padded(&chosen),
         cost: cuts::cost(&chosen, weights),
         moduli: padded(&moduli),
-        matrix: [[0; 5]; 5],
-    };
-    for (row, entries) in plan.matrix.iter_mut().zip(rows) {
-        *row = padded(&entries);
-    }
-    Ok(plan)
+        matrix: padded_rows(&rows),
+        kind: PLANNERS,
+    })
 }
 
-/// Refusals 1 to 4, in this order.
-pub fn check_job(p: u32, d: u32, extents: &[u32], weights: &[u32]) -> Result<(), Refusal> {
+/// Refusals 1 and 2, in this order.
+pub fn check_counts(p: u32, d: u32) -> Result<(), Refusal> {
     if !refusal::dimensions_in_range(d) {
         return Err(refusal::DIMENSIONS);
     }
     if !refusal::processors_in_range(p) {
         return Err(refusal::PROCESSORS);
     }
+    Ok(())
+}
+
+/// Refusals 3 and 4, in this order.
+pub fn check_lists(d: u32, extents: &[u32], weights: &[u32]) -> Result<(), Refusal> {
     if extents.len() != d as usize || weights.len() != d as usize {
         return Err(refusal::LENGTHS);
     }
@@ -57,9 +67,19 @@ pub fn check_job(p: u32, d: u32, extents: &[u32], weights: &[u32]) -> Result<(),
     }
 }
 
-fn padded(list: &[u32]) -> [u32; 5] {
+/// "Places past d are zero in the planner's answer."
+pub fn padded(list: &[u32]) -> [u32; 5] {
     let mut places = [0; 5];
     places[..list.len()].copy_from_slice(list);
+    places
+}
+
+/// A matrix of d rows of d entries, likewise.
+pub fn padded_rows(rows: &[Vec<u32>]) -> [[u32; 5]; 5] {
+    let mut places = [[0; 5]; 5];
+    for (place, row) in places.iter_mut().zip(rows) {
+        *place = padded(row);
+    }
     places
 }
 
@@ -77,7 +97,8 @@ impl Plan {
 
     /// Refusal 6: "A plan is out of shape if d, p or an extent is out of range, a cut is 0 or above
     /// its extent or above 4,096, there are more than 16,777,216 tiles, a modulus is 0, the moduli
-    /// don't multiply to p, or a matrix entry is not below its row's modulus."
+    /// don't multiply to p, or a matrix entry is not below its row's modulus." Also "a kind above 1 is
+    /// a 6" (document 02, c).
     pub fn check_shape(&self) -> Result<(), Refusal> {
         if self.in_shape() {
             Ok(())
@@ -103,6 +124,7 @@ impl Plan {
             && moduli.iter().all(|&m| m != 0)
             && multiplied == Some(u128::from(self.p))
             && (0..d).all(|i| self.matrix[i][..d].iter().all(|&entry| entry < moduli[i]))
+            && self.kind <= 1
     }
 
     /// Refusal 7, and the dimension's place counted from 0.
@@ -215,8 +237,8 @@ mod tests {
     #[test]
     fn plans_are_in_shape_and_damage_is_seen() {
         let plan = grid(8, &[9, 9, 9], &[1, 1, 1]).unwrap();
-        assert_eq!(plan.check_shape(), Ok(()));
-        let damage: [fn(&mut Plan); 16] = [
+        assert_eq!((plan.kind, plan.check_shape()), (0, Ok(())));
+        let damage: [fn(&mut Plan); 19] = [
             |plan| plan.d = 1,
             |plan| plan.d = 6,
             |plan| plan.p = 0,
@@ -233,6 +255,9 @@ mod tests {
             |plan| plan.matrix[0][0] = 1,
             |plan| plan.matrix[1][2] = 2,
             |plan| plan.matrix[2][2] = 4,
+            |plan| plan.kind = 2,
+            |plan| plan.kind = 3,
+            |plan| plan.kind = u32::MAX,
         ];
         for change in damage {
             let mut changed = plan.clone();
@@ -244,12 +269,13 @@ mod tests {
     #[test]
     fn what_the_shape_leaves_free() {
         let plan = grid(8, &[9, 9, 9], &[1, 1, 1]).unwrap();
-        let free: [fn(&mut Plan); 5] = [
+        let free: [fn(&mut Plan); 6] = [
             |plan| plan.cost = 77,
             |plan| plan.weights = [u32::MAX; 5],
             |plan| (plan.cuts[3], plan.extents[4], plan.moduli[3]) = (9, 9, 9),
             |plan| (plan.matrix[0][3], plan.matrix[4][0]) = (99, 99),
             |plan| (plan.cuts, plan.extents) = ([4096, 4096, 1, 0, 0], [5000; 5]),
+            |plan| plan.kind = 1,
         ];
         for change in free {
             let mut changed = plan.clone();

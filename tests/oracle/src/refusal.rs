@@ -27,9 +27,9 @@ pub const PROCESSORS: Refusal = Refusal::plain(2);
 pub const LENGTHS: Refusal = Refusal::plain(3);
 /// An extent out of range; the place is the first such dimension.
 pub const EXTENT: u32 = 4;
-/// No even, fitting cuts.
+/// No even, fitting cuts; for a diagonal plan "a cut above its extent stays a 5" (document 02, c).
 pub const NO_CUTS: Refusal = Refusal::plain(5);
-/// The plan is out of shape.
+/// The plan is out of shape; also "a kind above 1 is a 6" (document 02, c).
 pub const SHAPE: Refusal = Refusal::plain(6);
 /// Dimension not 1..d.
 pub const DIMENSION: Refusal = Refusal::plain(7);
@@ -42,6 +42,8 @@ pub const LIST: Refusal = Refusal::plain(9);
 pub const TEXT: u32 = 10;
 /// "The product of the other extents is above 4,294,967,295" (document 02, b).
 pub const OTHER_EXTENTS: Refusal = Refusal::plain(11);
+/// "12, p or d doesn't suit the layout, after 2 and before 3" (document 02, c).
+pub const LAYOUT: Refusal = Refusal::plain(12);
 
 /// "d: 2 to 5."
 pub fn dimensions_in_range(d: u32) -> bool {

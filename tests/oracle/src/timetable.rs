@@ -125,6 +125,7 @@ fn tiles_and_faces(plan: &Plan, k: usize, slab: u32, processor: u32) -> (u32, u3
 #[cfg(test)]
 mod tests {
     use super::*;
+    use crate::diagonal::diagonal_job;
     use crate::plan::plan_job;
     use crate::slabs::slab_of;
 
@@ -141,6 +142,15 @@ mod tests {
         plan.matrix = [[0; 5]; 5];
         plan.matrix[1] = [2, 3, 0, 0, 0];
         plan
+    }
+
+    /// Diagonal plans whose slabs have unequal thickness.
+    fn diagonals() -> [Plan; 3] {
+        [
+            diagonal_job(5, 2, &[7, 12], &[1; 2]).unwrap(),
+            diagonal_job(4, 3, &[5, 7, 9], &[1; 3]).unwrap(),
+            diagonal_job(9, 3, &[8, 4, 7], &[1; 3]).unwrap(),
+        ]
     }
 
     fn message(processor: u32, length: u32) -> Option<Message> {
@@ -292,7 +302,7 @@ mod tests {
             (6, &[3, 4, 5, 6, 7]),
         ];
         let plans = jobs.map(|(p, extents)| grid(p, extents));
-        for plan in plans.iter().chain([&three_by_two()]) {
+        for plan in plans.iter().chain(&diagonals()).chain([&three_by_two()]) {
             for k in 0..plan.dimensions() {
                 for up in [false, true] {
                     let at = |s, q| visit(plan, k as u32 + 1, up, s, q).unwrap();
@@ -315,7 +325,7 @@ mod tests {
     #[test]
     fn faces_element_by_element() {
         let plans = [grid(4, &[5, 7, 9]), grid(6, &[9, 9, 9]), grid(4, &[10, 10])];
-        for plan in plans.iter().chain([&three_by_two()]) {
+        for plan in plans.iter().chain(&diagonals()).chain([&three_by_two()]) {
             for k in 0..plan.dimensions() {
                 // A grid whose tiles are the elements.
                 let mut single = plan.clone();
