@@ -82,69 +82,22 @@ fn with_sides(d: usize, first: u32, s: u32) -> [u32; 5]
     [first, s, s, 0, 0]
 }
 
-// The matrix: row 1 is zero; row 2 is 1 s-1 in two dimensions; in three, row 2 is 1 0 s-1 and row 3 is 0 1 s-1. Modulo s, the 1 is 0 where s is 1.
+// The matrix, its rows five places apart: row 1 is zero; row 2 is 1 s-1 in two dimensions; in three, row 2 is 1 0 s-1 and row 3 is 0 1 s-1. Modulo
+// s, the 1 is 0 where s is 1.
 fn matrix_of(d: usize, s: u32) -> [u32; 25]
     requires { ⌜ (2 ≤ d) × (d ≤ 3) × (1 ≤ s) ⌝ }
     ensures { λ r. ⌜ r ≡ take 25 (flat (diagonalMatrix d s) ++ replicate 25 0) ⌝ }
 {
-    let one = 1 % s;
-    let last = s - 1;
+    let mut matrix: [u32; 25] = [0; 25];
+    matrix[5] = 1 % s;
     if d == 2 {
-        return [
-            0,
-            0,
-            0,
-            0,
-            0,
-            one,
-            last,
-            0,
-            0,
-            0,
-            0,
-            0,
-            0,
-            0,
-            0,
-            0,
-            0,
-            0,
-            0,
-            0,
-            0,
-            0,
-            0,
-            0,
-            0,
-        ];
+        matrix[6] = s - 1;
+        return matrix;
     }
-    [
-        0,
-        0,
-        0,
-        0,
-        0,
-        one,
-        0,
-        last,
-        0,
-        0,
-        0,
-        one,
-        last,
-        0,
-        0,
-        0,
-        0,
-        0,
-        0,
-        0,
-        0,
-        0,
-        0,
-        0,
-        0,
-    ]
+    matrix[7] = s - 1;
+    matrix[11] = 1 % s;
+    matrix[12] = s - 1;
+    matrix
 }
 
 // The plan with s cuts each way.
