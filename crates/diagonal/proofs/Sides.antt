@@ -17,7 +17,13 @@ use Rattle.diagonal.specs.Diagonal.{sideOf, sideFits}
 
 -- ---- powers
 
-pow-injective : (n a b : ℕ) → a ^ suc n ≡ b ^ suc n → a ≡ b
+pub power-one : (s : ℕ) → s ^ 1 ≡ s
+power-one s = pow-succ' s 0 ∙ ap (λ (m : ℕ). s * m) (pow-zero s) ∙ mul-one s
+
+pub square : (s : ℕ) → s ^ 2 ≡ s * s
+square s = pow-succ' s 1 ∙ ap (λ (m : ℕ). s * m) (power-one s)
+
+pub pow-injective : (n a b : ℕ) → a ^ suc n ≡ b ^ suc n → a ≡ b
 pow-injective n a b e = go (decLt a b) (decLt b a)
   where
     some : suc n ≢ zero
@@ -68,12 +74,9 @@ module _ (n p : ℕ) where
 
 -- p cuts each way for d = 2
 pub side-2 : (p : ℕ) → zero < p → sideOf 2 p ≡ p
-side-2 p l = side-is 0 p p l (pow-succ' p 0 ∙ ap (λ (m : ℕ). p * m) (pow-zero p) ∙ mul-one p)
+side-2 p l = side-is 0 p p l (power-one p)
 
 -- ---- the square root: s is the first number whose square is not below p
-
-square : (s : ℕ) → s ^ 2 ≡ s * s
-square s = pow-succ' s 1 ∙ ap (λ (m : ℕ). s * m) (pow-succ' s 0 ∙ ap (λ (m : ℕ). s * m) (pow-zero s) ∙ mul-one s)
 
 -- it is at most 64
 pub root-high : (p s : ℕ) → p ≤ 4096 → s * s < p → s < 64

@@ -39,7 +39,7 @@ diagonalMatrix (suc n) s = replicate (suc n) 0 ∷ diagonalRows (suc n) s 1 n
 
 -- the owner of a position
 unfoldable pub diagonalOwner : ℕ → ℕ → List ℕ → ℕ
-diagonalOwner d s position = ownerAt (diagonalModuli d s) (diagonalMatrix d s) position
+diagonalOwner d s = ownerAt (diagonalModuli d s) (diagonalMatrix d s)
 
 -- "Both are offered as plans, with a kind field: .. 1 for diagonal."
 abbrev pub diagonalPlan : Job → ℕ → Layout

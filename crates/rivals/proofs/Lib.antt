@@ -1,1 +1,3 @@
+pub mod EvenPlans
 pub mod Demand3
+pub mod DiagonalPlans

@@ -31,8 +31,8 @@ processorIn (refused number place) = 0
 unfoldable pub ownerIn : Plan → List ℕ → ℕ
 ownerIn plan position = processorIn (ownerAnswer (layoutOf plan) position)
 
--- What holds of a plan that the planner answers.
-pub record Ours (job : Job) (plan : Plan) : Type 0 where
+-- What holds of a plan that shares out a job's grid evenly: of every plan that the planner answers, and of every diagonal plan.
+pub record EvenPlan (job : Job) (plan : Plan) : Type 0 where
   -- it is the job's: "A plan holds d, p, extents, weights"
   pub holds-job : jobOf (layoutOf plan) ≡ job
   -- no question about it is refused with 6
@@ -47,12 +47,8 @@ pub record Ours (job : Job) (plan : Plan) : Type 0 where
       → held (cutsOf plan) (ownerIn plan) k s q ≡ product (cutsOf plan) / (getD (cutsOf plan) k 0 * job .p)
   -- that share is exact, not rounded
   pub share-exact : (k : ℕ) → k < length (cutsOf plan) → getD (cutsOf plan) k 0 * job .p ∣ product (cutsOf plan)
-  -- "its cost is the one in the plan, summed from the plan's cuts", and no balanced rival costs less; document 02, request a: "The rival's cost is
-  -- counted in the same way from here on."
+  -- "its cost is the one in the plan, summed from the plan's cuts"
   pub cost-summed : plan .cost ≡ costOf (job .weights) (cutsOf plan)
-  pub cheapest-of-all : (rival : Rival job) → Balanced (job .p) (rival .cuts) (rival .owner) → plan .cost ≤ costOf (job .weights) (rival .cuts)
-  -- tiles with a common face have different owners
-  pub faces-differ : (x y : List ℕ) → Inside (cutsOf plan) x → Inside (cutsOf plan) y → Face x y → ownerIn plan x ≢ ownerIn plan y
   -- "Where the tile one step up or down along k from a tile of processor q is inside the grid, its owner is the neighbour question's answer for
   -- q, k and that direction": dimensions are counted from 1
   pub one-neighbour : (k : ℕ) (up : Bool) (x y : List ℕ) → 1 ≤ k → k ≤ plan .d → Inside (cutsOf plan) x → oneStepOn (cutsOf plan) (k - 1) up x ≡ some y
@@ -61,6 +57,14 @@ pub record Ours (job : Job) (plan : Plan) : Type 0 where
   pub one-owner : (k : ℕ) (up : Bool) (x y x′ y′ : List ℕ) → 1 ≤ k → k ≤ plan .d → Inside (cutsOf plan) x → Inside (cutsOf plan) x′
       → oneStepOn (cutsOf plan) (k - 1) up x ≡ some y → oneStepOn (cutsOf plan) (k - 1) up x′ ≡ some y′ → ownerIn plan x ≡ ownerIn plan x′
       → ownerIn plan y ≡ ownerIn plan y′
+
+-- What holds of a plan that the planner answers.
+pub record Ours (job : Job) (plan : Plan) : Type 0 where
+  pub even : EvenPlan job plan
+  -- no balanced rival costs less; document 02, request a: "The rival's cost is counted in the same way from here on."
+  pub cheapest-of-all : (rival : Rival job) → Balanced (job .p) (rival .cuts) (rival .owner) → plan .cost ≤ costOf (job .weights) (rival .cuts)
+  -- tiles with a common face have different owners
+  pub faces-differ : (x y : List ℕ) → Inside (cutsOf plan) x → Inside (cutsOf plan) y → Face x y → ownerIn plan x ≢ ownerIn plan y
 
 -- Demand 3 for a job that planner::plan_job answers with `planned`.
 pub record Demand3 (job : Job) (planned : Planned) : Type 0 where
