@@ -2,33 +2,15 @@
 use mathlib.Core.Path.{_≡_, refl, sym, ap, _∙_}
 use mathlib.Core.Bool.{true, false, not}
 use mathlib.Core.Logic.{inl, inr}
-use Prim.Native.Nat.{ℕ, _≤_, _<_}
-use borrow.Author.Tests.{lt-leb, ne-eqb, eq-eqb}
+use Prim.Native.Nat.{ℕ}
+use borrow.Author.Tests.{ne-eqb, eq-eqb}
 use lib.Dec.{eqb}
 use Rattle.multipartition.specs.Answers.{answered, refused}
 use Rattle.multipartition.specs.Plans.{Job, between}
 use Rattle.multipartition.specs.Jobs.{firstOutside}
 use Rattle.multipartition.proofs.Answers.{FirstFails, checked-passed, checked-refused}
-use Rattle.multipartition.proofs.Tests.{between-true-iff, leb-iff}
 use Rattle.planner.proofs.Refusals.{outsideRange, outside-range, otherLengths}
 use Rattle.diagonal.specs.Diagonal.{diagonalPlan, sideOf, suits, sideFits, diagonalChecks, diagonalAnswer}
-
--- ---- when p and d suit the layout
-
-pub many-dimensions : (d p : ℕ) → 2 ≤ d → 3 < d → suits d p ≡ false
-unfolding suits
-many-dimensions d p low l = rw (leb-iff 2 d .1 low, lt-leb d 3 l)
-
-module _ (d p : ℕ) (low : 2 ≤ d) (high : d ≤ 3) where
-  pub no-side : p < sideOf d p → suits d p ≡ false
-  unfolding suits
-  no-side l = rw (between-true-iff 2 3 d .1 (low, high)) (lt-leb (sideOf d p) p l)
-
-  pub has-side : sideOf d p ≤ p → suits d p ≡ true
-  unfolding suits
-  has-side l = rw (between-true-iff 2 3 d .1 (low, high)) (leb-iff (sideOf d p) p .1 l)
-
--- ---- the lines
 
 module _ (job : Job) where
   first-fails : (number place : ℕ) → FirstFails (diagonalChecks job) number place → diagonalAnswer job ≡ refused number place

@@ -1,7 +1,7 @@
 -- The side of a diagonal layout: it is the s with s to the power d - 1 equal to p, and the test of the extents says whether its cuts fit.
 use mathlib.Core.Path.{_≡_, refl, sym, ap, _∙_, subst, subst⁻¹}
 use mathlib.Core.Logic.{_≢_, _↔_, ⊎-elim}
-use mathlib.Core.Bool.{Bool, true}
+use mathlib.Core.Bool.{Bool, true, false, cond}
 use mathlib.Core.List.{List, [], _∷_}
 use Prim.Native.Nat.{ℕ, zero, suc, _+_, _-_, _*_, _^_, _≤_, _<_}
 use native.Mathlib.Nat.{pow-lt-pow-left, pow-succ', pow-zero, mul-one, zero-mul, one-le-pow, le-mul-of-pos-right, mul-le-mul, eq-or-lt-of-le}
@@ -11,9 +11,10 @@ use lib.Dec.{leb, eqb}
 use lib.ListN.{length, getD, replicate}
 use Rattle.multipartition.specs.Cuts.{Fits}
 use Rattle.multipartition.specs.Lists.{firstSuch}
-use Rattle.multipartition.proofs.Tests.{allBelow-true-iff, eqb-iff, leb-iff}
-use Rattle.multipartition.proofs.Searches.{first-such-low, first-such-passes, first-such-only, first-such-none}
-use Rattle.diagonal.specs.Diagonal.{sideOf, sideFits}
+use Rattle.multipartition.specs.Plans.{between}
+use Rattle.multipartition.proofs.Tests.{and-true-iff, allBelow-true-iff, eqb-iff, leb-iff, between-true-iff, by-cond}
+use Rattle.multipartition.proofs.Searches.{first-such-low, first-such-passes, first-such-only}
+use Rattle.diagonal.specs.Diagonal.{sideOf, suits, sideFits}
 
 -- ---- powers
 
@@ -68,13 +69,44 @@ module _ (n p : ℕ) where
       let high : s ≤ p = subst (λ (m : ℕ). s ≤ m) e (side-le n s low) in
       first-such-only test 1 p s (λ i f. pow-injective n i s (test-iff i .0 f ∙ sym e)) low (omega arith) (test-iff s .1 e)
 
-  pub side-none : ((s : ℕ) → s ^ suc n ≢ p) → sideOf (suc (suc n)) p ≡ suc p
-  unfolding sideOf test
-  side-none h = first-such-none test 1 p (λ s e. h s (test-iff s .0 e)) ∙ omega arith
+-- ---- where p and d suit the layout
+
+-- the side, and p + 1 where they do not
+abbrev pub suitedSide : ℕ → ℕ → ℕ
+suitedSide d p = cond (suits d p) (sideOf d p) (p + 1)
+
+suits-side : (d p : ℕ) → suits d p ≡ true → sideOf d p ≤ p
+unfolding suits
+suits-side d p e = leb-iff (sideOf d p) p .0 (and-true-iff (between 2 3 d) (leb (sideOf d p) p) .0 e .1)
+
+pub suits-high : (d p : ℕ) → suits d p ≡ true → d ≤ 3
+unfolding suits
+suits-high d p e = between-true-iff 2 3 d .0 (and-true-iff (between 2 3 d) (leb (sideOf d p) p) .0 e .0) .1
+
+pub unsuited : (d p : ℕ) → (suits d p ≡ true → ⊥) → suitedSide d p ≡ p + 1
+unsuited d p h = by-cond (λ (m : ℕ). m ≡ p + 1) (suits d p) (sideOf d p) (p + 1) (λ e. absurd (h e)) (λ e. refl)
+
+-- for d = n + 2, which is 2 or 3
+suited-is : (n p s : ℕ) → n ≤ 1 → zero < p → s ^ suc n ≡ p → suitedSide (suc (suc n)) p ≡ s
+unfolding suits
+suited-is n p s few l e =
+    let found = side-is n p s l e in
+    let low : zero < s = pow-positive n s (subst⁻¹ (λ (m : ℕ). zero < m) e l) in
+    let high : sideOf (suc (suc n)) p ≤ p = subst⁻¹ (λ (m : ℕ). m ≤ p) found (subst (λ (m : ℕ). s ≤ m) e (side-le n s low)) in
+    rw (between-true-iff 2 3 (suc (suc n)) .1 (omega arith, omega arith), leb-iff (sideOf (suc (suc n)) p) p .1 high) found
 
 -- p cuts each way for d = 2
-pub side-2 : (p : ℕ) → zero < p → sideOf 2 p ≡ p
-side-2 p l = side-is 0 p p l (power-one p)
+pub suited-2 : (p : ℕ) → zero < p → suitedSide 2 p ≡ p
+suited-2 p l = suited-is 0 p p (omega arith) l (power-one p)
+
+-- what the side says
+pub suited-above : (d p : ℕ) → p < suitedSide d p → suits d p ≡ false
+suited-above d p =
+    by-cond (λ (m : ℕ). p < m → suits d p ≡ false) (suits d p) (sideOf d p) (p + 1) (λ e l. absurd (omega (arith, suits-side d p e))) (λ e l. e)
+
+pub suited-within : (d p : ℕ) → suitedSide d p ≤ p → (suits d p ≡ true) × (suitedSide d p ≡ sideOf d p)
+suited-within d p =
+    by-cond (λ (m : ℕ). m ≤ p → (suits d p ≡ true) × (m ≡ sideOf d p)) (suits d p) (sideOf d p) (p + 1) (λ e l. (e, refl)) (λ e l. absurd (omega arith))
 
 -- ---- the square root: s is the first number whose square is not below p
 
@@ -94,11 +126,11 @@ root-next p s below l i m = ⊎-elim (λ (e : i ≡ s). subst⁻¹ (λ (j : ℕ)
     at-most : i ≤ s
     at-most = omega arith
 
-pub root-found : (p s : ℕ) → 1 ≤ p → s * s ≡ p → s ≡ sideOf 3 p
-root-found p s l e = sym (side-is 1 p s l (square s ∙ e))
+pub root-found : (p s : ℕ) → 1 ≤ p → s * s ≡ p → s ≡ suitedSide 3 p
+root-found p s l e = sym (suited-is 1 p s (omega arith) l (square s ∙ e))
 
-pub root-none : (p s : ℕ) → ((i : ℕ) → i < s → i * i < p) → p < s * s → p + 1 ≡ sideOf 3 p
-root-none p s below l = omega (arith, side-none 1 p (λ i e. not-root i (sym (square i) ∙ e)))
+pub root-none : (p s : ℕ) → ((i : ℕ) → i < s → i * i < p) → p < s * s → p + 1 ≡ suitedSide 3 p
+root-none p s below l = sym (unsuited 3 p (λ suit. not-root (sideOf 3 p) (sym (square (sideOf 3 p)) ∙ side-power 1 p (suits-side 3 p suit))))
   where
     not-root : (i : ℕ) → i * i ≢ p
     not-root i e = go (decLt i s)

@@ -4,20 +4,21 @@ use planner::Planned;
 use planner::first_outside;
 use planner::padded;
 use planner::refused;
+ghost use mathlib.Core.Bool.{cond};
 ghost use mathlib.Core.Path.{_≡_};
 ghost use mathlib.Core.List.{_++_, _∷_};
-ghost use Prim.Native.Nat.{_-_, _^_, _≤_};
+ghost use Prim.Native.Nat.{_+_, _-_, _^_, _≤_};
 ghost use lib.ListN.{length, replicate, take};
 ghost use Rattle.multipartition.specs.Cuts.{cutCost, costOf};
 ghost use Rattle.multipartition.specs.Plans.{jobWith};
 ghost use Rattle.layout.specs.Plans.{five, flat, planOf};
 ghost use Rattle.planner.specs.Planned.{plannedOf};
-ghost use Rattle.diagonal.specs.Diagonal.{diagonalCuts, diagonalMatrix, diagonalPlan, sideOf, sideFits, diagonalAnswer};
+ghost use Rattle.diagonal.specs.Diagonal.{diagonalCuts, diagonalMatrix, diagonalPlan, sideOf, suits, sideFits, diagonalAnswer};
 
 // The s with s * s = p; p + 1 if there is none.
 fn square_side(p: u32) -> u32
     requires { ⌜ (1 ≤ p) × (p ≤ 4096) ⌝ }
-    ensures { λ r. ⌜ r ≡ sideOf 3 p ⌝ }
+    ensures { λ r. ⌜ r ≡ cond (suits 3 p) (sideOf 3 p) (p + 1) ⌝ }
 {
     let mut s: u32 = 1;
     while s * s < p {
@@ -29,15 +30,18 @@ fn square_side(p: u32) -> u32
     p + 1
 }
 
-// The side of the layout for p processors: p in two dimensions, the square root of p in three; p + 1 if there is none.
+// The side of the layout for p processors: p in two dimensions, the square root of p in three; p + 1 where p or d does not suit it.
 fn side_of(d: usize, p: u32) -> u32
-    requires { ⌜ (2 ≤ d) × (d ≤ 3) × (1 ≤ p) × (p ≤ 4096) ⌝ }
-    ensures { λ r. ⌜ r ≡ sideOf d p ⌝ }
+    requires { ⌜ (2 ≤ d) × (1 ≤ p) × (p ≤ 4096) ⌝ }
+    ensures { λ r. ⌜ r ≡ cond (suits d p) (sideOf d p) (p + 1) ⌝ }
 {
     if d == 2 {
         return p;
     }
-    square_side(p)
+    if d == 3 {
+        return square_side(p);
+    }
+    p + 1
 }
 
 // Whether no cut is above its extent.
@@ -128,9 +132,6 @@ pub fn diagonal_job(p: u32, d: usize, extents: &[u32], weights: &[u32]) -> Plann
     }
     if (p < 1) | (4096 < p) {
         return refused(2, 0);
-    }
-    if 3 < d {
-        return refused(12, 0);
     }
     let s = side_of(d, p);
     if p < s {
