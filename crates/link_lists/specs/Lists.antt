@@ -13,7 +13,7 @@ use Rattle.timetable.specs.Timetable.{Message, Visit}
 -- ---- plans
 
 -- the places of a plan list: 0 d, 1 p, 2 to 6 extents, 7 to 11 weights, 12 to 16 cuts, 17 and 18 cost (the lower 32 bits first), 19 to 23 moduli,
--- 24 to 48 matrix, row after row of five places
+-- 24 to 48 matrix, row after row of five places, 49 kind (document 02, request c)
 unfoldable pub planIn : List ℕ → Plan
 planIn list = record {
   d = getD list 0 0;
@@ -24,6 +24,7 @@ planIn list = record {
   cost = getD list 17 0 + 4294967296 * getD list 18 0;
   moduli = take 5 (drop 19 list);
   matrix = take 25 (drop 24 list);
+  kind = getD list 49 0;
 }
 
 -- the list of a plan
@@ -32,11 +33,11 @@ listOfPlan plan =
     plan .d
     ∷ plan .p
     ∷ plan .extents
-    ++ (plan .weights ++ (plan .cuts ++ (plan .cost % 4294967296 ∷ plan .cost / 4294967296 ∷ plan .moduli ++ plan .matrix)))
+    ++ (plan .weights ++ (plan .cuts ++ (plan .cost % 4294967296 ∷ plan .cost / 4294967296 ∷ plan .moduli ++ (plan .matrix ++ (plan .kind ∷ [])))))
 
 -- how many places a plan list has
 abbrev pub planPlaces : ℕ
-planPlaces = 49
+planPlaces = 50
 
 -- ---- answers
 

@@ -19,7 +19,7 @@ ghost use Rattle.tiles.specs.Positions.{coordinates, positionWith};
 ghost use Rattle.timetable.specs.Told.{toldMessage, toldVisit};
 ghost use Rattle.link_lists.specs.Lists.{planIn, listOfPlan, planPlaces, into, messageNumbers, visitNumbers, Linked};
 
-// Where the parts of a plan list start, where the last of them ends, and how many places the list has.
+// Where the parts of a plan list start, and how many places the list has.
 const DIMENSIONS: usize = 0;
 
 const PROCESSORS: usize = 1;
@@ -38,9 +38,9 @@ const MODULI: usize = 19;
 
 const MATRIX: usize = 24;
 
-const MATRIX_END: usize = 49;
+const KIND: usize = 49;
 
-pub const PLAN_LENGTH: usize = 49;
+pub const PLAN_LENGTH: usize = 50;
 
 // Numbers into a list, from place `at` on.
 fn put_part(list: &mut [u32], at: usize, part: &[u32])
@@ -70,7 +70,7 @@ fn matrix_in(list: &[u32]) -> [u32; 25]
     ensures { λ r. ⌜ r ≡ take 25 (drop 24 (now (list .entry))) ⌝ }
 {
     let mut out = [0u32; 25];
-    put_part(&mut out, 0, &list[MATRIX..MATRIX_END]);
+    put_part(&mut out, 0, &list[MATRIX..KIND]);
     out
 }
 
@@ -94,6 +94,7 @@ pub fn plan_in(list: &[u32]) -> Plan
     let cost = joined(list[COST_LOW], list[COST_HIGH]);
     let moduli = five(list, MODULI);
     let matrix = matrix_in(list);
+    let kind = list[KIND];
     Plan {
         d: d,
         p: p,
@@ -103,6 +104,7 @@ pub fn plan_in(list: &[u32]) -> Plan
         cost: cost,
         moduli: moduli,
         matrix: matrix,
+        kind: kind,
     }
 }
 
@@ -114,10 +116,11 @@ pub fn owner_in<'a>(list: &'a [u32], position: &'a [u32]) -> Owner
     owner_over(
         list[DIMENSIONS] as usize,
         list[PROCESSORS],
+        list[KIND],
         &list[EXTENTS..WEIGHTS],
         &list[CUTS..COST_LOW],
         &list[MODULI..MATRIX],
-        &list[MATRIX..MATRIX_END],
+        &list[MATRIX..KIND],
         position,
     )
 }
@@ -130,10 +133,11 @@ pub fn neighbour_in(list: &[u32], processor: u32, dimension: usize, up: bool) ->
     neighbour_over(
         list[DIMENSIONS] as usize,
         list[PROCESSORS],
+        list[KIND],
         &list[EXTENTS..WEIGHTS],
         &list[CUTS..COST_LOW],
         &list[MODULI..MATRIX],
-        &list[MATRIX..MATRIX_END],
+        &list[MATRIX..KIND],
         processor,
         dimension,
         up,
@@ -287,5 +291,6 @@ pub fn put_plan(list: &mut [u32], plan: Plan) -> u64
     put_part(list, COST_LOW, &cost);
     put_part(list, MODULI, &plan.moduli);
     put_part(list, MATRIX, &plan.matrix);
+    list[KIND] = plan.kind;
     0
 }

@@ -43,6 +43,7 @@ uneven = record {
   cost = 0;
   moduli = 1 ∷ 6 ∷ [];
   matrix = (0 ∷ 0 ∷ []) ∷ (2 ∷ 3 ∷ []) ∷ [];
+  kind = 0;
 }
 
 -- a question: dimension, direction, step, processor

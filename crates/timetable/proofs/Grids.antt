@@ -89,6 +89,7 @@ module _ (plan : Plan) (k : ℕ) (s : Shaped plan) (lk : k < plan .d) where
     d-high = s .d-high;
     p-low = s .p-low;
     p-high = s .p-high;
+    kind-high = s .kind-high;
     extent-low = extent-one-low;
     extent-high = extent-one-high;
     cut-low = λ i l. one-at (λ n. 1 ≤ n) (plan .cuts) k i in-cuts (le-refl 1) (s .cut-low i l);
@@ -131,6 +132,7 @@ shaped-one-each plan s = record {
   d-high = s .d-high;
   p-low = s .p-low;
   p-high = s .p-high;
+  kind-high = s .kind-high;
   extent-low = s .cut-low;
   extent-high = λ i l. le-trans (s .cut-high i l) (omega arith);
   cut-low = s .cut-low;

@@ -47,6 +47,7 @@ flattened k plan = record {
   cost = plan .cost;
   moduli = plan .moduli;
   matrix = plan .matrix;
+  kind = plan .kind;
 }
 
 -- the plan with one element in every slab: its faces are 1, so that their sum counts tiles
@@ -60,6 +61,7 @@ oneEach plan = record {
   cost = plan .cost;
   moduli = plan .moduli;
   matrix = plan .matrix;
+  kind = plan .kind;
 }
 
 -- a table of rows along dimension j, with an entry for each owner of a row's first tile: the elements that the first m slabs have of q

@@ -15,6 +15,9 @@ cast-neighbour-over c = omega (arith, c .shared-slice-known2 .given 0)
 shared-slice-read-neighbour-over-2 : tie.Need-shared-slice-read-neighbour-over-2
 shared-slice-read-neighbour-over-2 c = search needs
 
+shared-slice-read-neighbour-over-3 : tie.Need-shared-slice-read-neighbour-over-3
+shared-slice-read-neighbour-over-3 c = search needs
+
 sub-neighbour-over : tie.Need-sub-neighbour-over
 sub-neighbour-over c = search needs
 
@@ -55,7 +58,7 @@ neighbour-over-requires : tie.Need-neighbour-over-requires
 neighbour-over-requires c κs = search needs
 
 returns : tie.Need-returns
-returns c = let s = c .before .before .before .before .before .before .before .before in c .neighbour-over .ensures ∙ neighbour-over-list (s .args .list .now) (s .pre) (s .args .processor) (s .args .dimension) (s .args .up)
+returns c = let s = c .before .before .before .before .before .before .before .before .before in c .neighbour-over .ensures ∙ neighbour-over-list (s .args .list .now) (s .pre) (s .args .processor) (s .args .dimension) (s .args .up)
 
 pub neighbour-in-spec : {M : Type 1} → statement M
 neighbour-in-spec =
@@ -64,6 +67,7 @@ neighbour-in-spec =
     shared-slice-read-neighbour-over
     cast-neighbour-over
     shared-slice-read-neighbour-over-2
+    shared-slice-read-neighbour-over-3
     sub-neighbour-over
     part-neighbour-over-start
     part-neighbour-over-end

@@ -15,6 +15,9 @@ cast-owner-over c = omega (arith, c .shared-slice-known3 .given 0)
 shared-slice-read-owner-over-2 : tie.Need-shared-slice-read-owner-over-2
 shared-slice-read-owner-over-2 c = search needs
 
+shared-slice-read-owner-over-3 : tie.Need-shared-slice-read-owner-over-3
+shared-slice-read-owner-over-3 c = search needs
+
 sub-owner-over : tie.Need-sub-owner-over
 sub-owner-over c = search needs
 
@@ -55,7 +58,7 @@ owner-over-requires : tie.Need-owner-over-requires
 owner-over-requires c κs = search needs
 
 returns : tie.Need-returns
-returns c = let s = c .before .before .before .before .before .before .before .before .before in c .owner-over .ensures ∙ owner-over-list (s .args .list .now) (s .pre) (s .args .position .now)
+returns c = let s = c .before .before .before .before .before .before .before .before .before .before in c .owner-over .ensures ∙ owner-over-list (s .args .list .now) (s .pre) (s .args .position .now)
 
 pub owner-in-spec : {M : Type 1} → statement M
 owner-in-spec =
@@ -64,6 +67,7 @@ owner-in-spec =
     shared-slice-read-owner-over
     cast-owner-over
     shared-slice-read-owner-over-2
+    shared-slice-read-owner-over-3
     sub-owner-over
     part-owner-over-start
     part-owner-over-end

@@ -38,16 +38,19 @@ five-requires-4 c κs = search needs
 matrix-in-requires : tie.Need-matrix-in-requires
 matrix-in-requires c κs = search needs
 
+shared-slice-read-kind : tie.Need-shared-slice-read-kind
+shared-slice-read-kind c = search needs
+
 returns : tie.Need-returns
 unfolding planIn
 returns c =
     rw (
-      c .before .before .before .before .before .before .before .five .ensures,
-      c .before .before .before .before .before .before .five2 .ensures,
-      c .before .before .before .before .before .five3 .ensures,
-      c .before .before .joined .ensures,
-      c .before .five4 .ensures,
-      c .matrix-in .ensures,
+      c .before .before .before .before .before .before .before .before .five .ensures,
+      c .before .before .before .before .before .before .before .five2 .ensures,
+      c .before .before .before .before .before .before .five3 .ensures,
+      c .before .before .before .joined .ensures,
+      c .before .before .five4 .ensures,
+      c .before .matrix-in .ensures,
     )
 
 pub plan-in-spec : {M : Type 1} → statement M
@@ -65,4 +68,5 @@ plan-in-spec =
     joined-requires
     five-requires-4
     matrix-in-requires
+    shared-slice-read-kind
     returns)

@@ -1,7 +1,8 @@
 -- `link_lists::put_plan` meets its contract. Assumes nothing.
 use borrow.Author.Needs.{needs}
-use mathlib.Core.Path.{sym, _∙_}
+use mathlib.Core.Path.{refl, sym, _∙_}
 use native.Mathlib.Omega.{arith}
+use lib.ListN.{length-set}
 use Rattle.link_lists.specs.Lists.{listOfPlan}
 use Rattle.link_lists.proofs.Answers.{linked-into, linked-length}
 use Rattle.layout.proofs.Places.{Arrays}
@@ -60,6 +61,18 @@ put-part-requires-7 c κs =
     let arrays : Arrays (s1 .before .before .before .before .before .args .t2) = search needs in
     omega (arith, kept, arrays .matrix-places)
 
+slice-write-list : tie.Need-slice-write-list
+slice-write-list c =
+    let s7 = c .before .before in
+    let s6 = s7 .before .before .before .before .before .before .before in
+    let s5 = s6 .before .before .before .before .before .before .before in
+    let s4 = s5 .before .before .before .before .before in
+    let s3 = s4 .before .before .before .before .before .before .before in
+    let s2 = s3 .before .before .before .before .before .before .before in
+    let s1 = s2 .before .before .before .before .before .before .before in
+    let kept = s7 .put-part7 .ensures .1 ∙ s6 .put-part6 .ensures .1 ∙ s5 .put-part5 .ensures .1 ∙ s4 .put-part4 .ensures .1 ∙ s3 .put-part3 .ensures .1 ∙ s2 .put-part2 .ensures .1 ∙ s1 .put-part .ensures .1 ∙ s1 .before .before .before .if1 .left in
+    omega (arith, kept)
+
 same-length : tie.Need-same-length
 same-length c =
     let s7 = c .before .before in
@@ -69,7 +82,7 @@ same-length c =
     let s3 = s4 .before .before .before .before .before .before .before in
     let s2 = s3 .before .before .before .before .before .before .before in
     let s1 = s2 .before .before .before .before .before .before .before in
-    s7 .put-part7 .ensures .1 ∙ s6 .put-part6 .ensures .1 ∙ s5 .put-part5 .ensures .1 ∙ s4 .put-part4 .ensures .1 ∙ s3 .put-part3 .ensures .1 ∙ s2 .put-part2 .ensures .1 ∙ s1 .put-part .ensures .1
+    length-set (s7 .put-part7 .last .0) 49 _ ∙ s7 .put-part7 .ensures .1 ∙ s6 .put-part6 .ensures .1 ∙ s5 .put-part5 .ensures .1 ∙ s4 .put-part4 .ensures .1 ∙ s3 .put-part3 .ensures .1 ∙ s2 .put-part2 .ensures .1 ∙ s1 .put-part .ensures .1
 
 returns-2 : tie.Need-returns-2
 returns-2 c =
@@ -83,6 +96,7 @@ returns-2 c =
     let a = s1 .before .before .before .before .before .args in
     let arrays : Arrays (a .t2) = search needs in
     linked-into (a .list .now) (listOfPlan (a .t2)) _ (s1 .before .before .before .if1 .left ∙ sym (length-list (a .t2) arrays))
+    (sets-parts (a .t2) arrays (a .list .now) _
     (s7 .put-part7 .ensures .0
     ∙ rw (
       s6 .put-part6 .ensures .0,
@@ -92,7 +106,7 @@ returns-2 c =
       s2 .put-part2 .ensures .0,
       s1 .put-part .ensures .0,
     )
-    (sets-parts (a .t2) arrays (a .list .now)))
+    refl))
 
 pub put-plan-spec : {M : Type 1} → statement M
 put-plan-spec =
@@ -111,5 +125,6 @@ put-plan-spec =
     put-part-requires-5
     put-part-requires-6
     put-part-requires-7
+    slice-write-list
     same-length
     returns-2)
