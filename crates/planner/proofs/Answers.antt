@@ -1,6 +1,6 @@
 -- The planner's answer: a refusal has a number from 1 on, so that 0 tells a plan from a refusal, and a plan fits its five places.
 use mathlib.Core.Path.{_≡_, _∙_, subst⁻¹}
-use Prim.Native.Nat.{_+_, _≤_}
+use Prim.Native.Nat.{ℕ, _+_, _≤_}
 use native.Mathlib.Omega.{arith}
 use lib.ListN.{length}
 use Rattle.multipartition.specs.Answers.{Answer, answered, refused}
@@ -16,12 +16,12 @@ abbrev pub Numbered : Answer Layout → Type 0
 Numbered (answered plan) = Unit {0}
 Numbered (refused number place) = 1 ≤ number
 
+pub numbered-of-small : (most : ℕ) (a : Answer Layout) → Small most a → Numbered a
+numbered-of-small most (answered plan) h = tt
+numbered-of-small most (refused number place) h = h .0
+
 pub numbered-plan : (job : Job) → Numbered (planAnswer job)
-numbered-plan job = go (planAnswer job) (plan-small job)
-  where
-    go : (a : Answer Layout) → Small (1 + length (job .extents)) a → Numbered a
-    go (answered plan) h = tt
-    go (refused number place) h = h .0
+numbered-plan job = numbered-of-small (1 + length (job .extents)) (planAnswer job) (plan-small job)
 
 pub plan-sized : (job : Job) (plan : Layout) → planAnswer job ≡ answered plan → Sized plan
 plan-sized job plan e =

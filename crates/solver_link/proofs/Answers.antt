@@ -15,17 +15,25 @@ pub linked-list-length : {A : Type 0} (list : List ℕ) (asked : Answer A) (lent
     → Linked (checked (planListCheck list ∷ []) asked) lent 6 lent
 linked-list-length list asked lent e = rw (ne-eqb _ _ e) (record { returned = refl; held = refl })
 
--- a question about a plan list, where the call behind it answers
+-- a question, where the call behind it answers, and where it refuses
+pub linked-asked-answered : {A : Type 0} (asked : Answer A) (next : A → Answer (List ℕ)) (lent : List ℕ) (a : A) → asked ≡ answered a
+    → (code : ℕ) (after : List ℕ) → Linked (next a) lent code after → Linked (andThen asked next) lent code after
+linked-asked-answered asked next lent a told code after l = rw told l
+
+pub linked-asked-refused : {A : Type 0} (asked : Answer A) (next : A → Answer (List ℕ)) (lent : List ℕ) (number place : ℕ) → asked ≡ refused number place
+    → (code : ℕ) → code ≡ number + 4294967296 * place → Linked (andThen asked next) lent code lent
+linked-asked-refused asked next lent number place told code sum = rw told (record { returned = sum; held = refl })
+
+-- the same about a plan list
 pub linked-answered : {A : Type 0} (list : List ℕ) (asked : Answer A) (next : A → Answer (List ℕ)) (lent : List ℕ) → length list ≡ planPlaces
     → (a : A) → asked ≡ answered a → (code : ℕ) (after : List ℕ) → Linked (next a) lent code after
     → Linked (checked (planListCheck list ∷ []) (andThen asked next)) lent code after
-linked-answered list asked next lent e a told code after l = rw (eq-eqb _ _ e, told) l
+linked-answered list asked next lent e a told code after l = rw (eq-eqb _ _ e) (linked-asked-answered asked next lent a told code after l)
 
--- the same, where it refuses
 pub linked-refused : {A : Type 0} (list : List ℕ) (asked : Answer A) (next : A → Answer (List ℕ)) (lent : List ℕ) → length list ≡ planPlaces
     → (number place : ℕ) → asked ≡ refused number place → (code : ℕ) → code ≡ number + 4294967296 * place
     → Linked (checked (planListCheck list ∷ []) (andThen asked next)) lent code lent
-linked-refused list asked next lent e number place told code sum = rw (eq-eqb _ _ e, told) (record { returned = sum; held = refl })
+linked-refused list asked next lent e number place told code sum = rw (eq-eqb _ _ e) (linked-asked-refused asked next lent number place told code sum)
 
 -- the chains of a plan list
 pub linked-chains : (list : List ℕ) (asked : Answer (List ℕ × List ℕ)) (chained : Chained) (lent after : List ℕ × List ℕ) → length list ≡ planPlaces

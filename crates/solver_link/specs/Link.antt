@@ -6,10 +6,12 @@ use Prim.Native.Nat.{ℕ}
 use lib.Dec.{eqb}
 use lib.ListN.{length, replicate}
 use Rattle.multipartition.specs.Answers.{Answer, answered, refused, Check, checked}
-use Rattle.multipartition.specs.Plans.{jobWith}
+use Rattle.multipartition.specs.Plans.{Layout, jobWith}
 use Rattle.multipartition.specs.Jobs.{planAnswer}
 use Rattle.multipartition.specs.Questions.{ownerAnswer, neighbourAnswer, slabAnswer, slabOfAnswer, numberAnswer, positionAnswer, stepAnswer, chainsAnswer}
 use Rattle.layout.specs.Plans.{layoutOf, planOf}
+use Rattle.diagonal.specs.Diagonal.{diagonalAnswer}
+use Rattle.hypercube.specs.Hypercube.{hypercubeAnswer}
 use Rattle.timetable.specs.Timetable.{timetableAnswer}
 use Rattle.link_lists.specs.Lists.{planIn, listOfPlan, planPlaces, into, visitNumbers}
 
@@ -22,9 +24,21 @@ abbrev pub andThen : {A B : Type 0} → Answer A → (A → Answer B) → Answer
 andThen (answered a) next = next a
 andThen (refused number place) next = refused number place
 
--- planning: the plan list
+-- a plan that is answered: the plan list
+abbrev pub planListed : ℕ → Answer Layout → Answer (List ℕ)
+planListed places asked = andThen asked (λ layout. into places (listOfPlan (planOf layout)))
+
+-- planning
 unfoldable pub planLink : ℕ → ℕ → List ℕ → List ℕ → ℕ → Answer (List ℕ)
-planLink p d extents weights places = andThen (planAnswer (jobWith p d extents weights)) (λ layout. into places (listOfPlan (planOf layout)))
+planLink p d extents weights places = planListed places (planAnswer (jobWith p d extents weights))
+
+-- a diagonal plan (document 02, request c)
+unfoldable pub diagonalLink : ℕ → ℕ → List ℕ → List ℕ → ℕ → Answer (List ℕ)
+diagonalLink p d extents weights places = planListed places (diagonalAnswer (jobWith p d extents weights))
+
+-- the owner of a position of the hypercube layout (document 02, request c): the processor
+unfoldable pub hypercubeOwnerLink : ℕ → List ℕ → ℕ → Answer (List ℕ)
+hypercubeOwnerLink p position places = andThen (hypercubeAnswer p position) (λ q. into places (q ∷ []))
 
 -- the owner of a position: the processor
 unfoldable pub ownerLink : List ℕ → List ℕ → ℕ → Answer (List ℕ)

@@ -14,7 +14,7 @@ use tiles::slabs::SlabNumber;
 use timetable::Visited;
 ghost use lib.ListN.{length};
 ghost use Rattle.link_lists.specs.Lists.{Linked};
-ghost use Rattle.solver_link.specs.Link.{planLink, ownerLink, neighbourLink, slabLink, slabOfLink, tileNumberLink, tilePositionLink, stepLink, timetableLink, chainsLink};
+ghost use Rattle.solver_link.specs.Link.{planLink, diagonalLink, hypercubeOwnerLink, ownerLink, neighbourLink, slabLink, slabOfLink, tileNumberLink, tilePositionLink, stepLink, timetableLink, chainsLink};
 
 // Plans a job: the answer list gets the plan list.
 #[no_mangle]
@@ -33,6 +33,41 @@ pub extern "C" fn multipartition_plan(
     }
     let found = planned.plan;
     link_lists::put_plan(plan, found)
+}
+
+// Plans a job with the diagonal layout: the answer list gets the plan list.
+#[no_mangle]
+pub extern "C" fn multipartition_diagonal(
+    processors: u32,
+    dimensions: u32,
+    extents: &[u32],
+    weights: &[u32],
+    plan: &mut [u32],
+) -> u64
+    ensures { λ r. ⌜ Linked (diagonalLink processors dimensions (now (extents .entry)) (now (weights .entry)) (length (now (plan .entry)))) (now (plan .entry)) r (now (plan .exit)) ⌝ }
+{
+    let planned = diagonal::diagonal_job(processors, dimensions as usize, extents, weights);
+    if planned.number != 0 {
+        return link_lists::joined(planned.number, planned.place);
+    }
+    let found = planned.plan;
+    link_lists::put_plan(plan, found)
+}
+
+// Who owns a position of the hypercube layout: the answer list gets the processor.
+#[no_mangle]
+pub extern "C" fn multipartition_hypercube_owner(
+    processors: u32,
+    position: &[u32],
+    answer: &mut [u32],
+) -> u64
+    ensures { λ r. ⌜ Linked (hypercubeOwnerLink processors (now (position .entry)) (length (now (answer .entry)))) (now (answer .entry)) r (now (answer .exit)) ⌝ }
+{
+    let owner = hypercube::hypercube_owner(processors, position);
+    match owner {
+        Owner::Processor(q) => link_lists::put_one(answer, q),
+        Owner::Refused { number, place } => link_lists::joined(number, place),
+    }
 }
 
 // Who owns a position: the answer list gets the processor.
