@@ -1,5 +1,5 @@
 -- The calls of the link for a solver in C (document 01, "Tiles, slabs, chains").
-use mathlib.Core.Bool.{not}
+use mathlib.Core.Bool.{not, cond}
 use mathlib.Core.List.{List, [], _∷_}
 use mathlib.Core.Option.{Option, none, some}
 use Prim.Native.Nat.{ℕ}
@@ -10,6 +10,7 @@ use Rattle.multipartition.specs.Plans.{Layout, jobWith}
 use Rattle.multipartition.specs.Jobs.{planAnswer}
 use Rattle.multipartition.specs.Questions.{ownerAnswer, neighbourAnswer, slabAnswer, slabOfAnswer, numberAnswer, positionAnswer, stepAnswer, chainsAnswer}
 use Rattle.layout.specs.Plans.{layoutOf, planOf}
+use Rattle.planner.specs.declared.Planned.{Planned}
 use Rattle.diagonal.specs.Diagonal.{diagonalAnswer}
 use Rattle.hypercube.specs.Hypercube.{hypercubeAnswer}
 use Rattle.timetable.specs.Timetable.{timetableAnswer}
@@ -28,6 +29,15 @@ andThen (refused number place) next = refused number place
 abbrev pub planListed : ℕ → Answer Layout → Answer (List ℕ)
 planListed places asked = andThen asked (λ layout. into places (listOfPlan (planOf layout)))
 
+-- the same of what a planning call answered, whose number is 0 for a plan
+unfoldable pub plannedListed : ℕ → Planned → Answer (List ℕ)
+plannedListed places planned =
+    cond (eqb (planned .number) 0) (into places (listOfPlan (planned .plan))) (refused (planned .number) (planned .place))
+
+-- an owner that is answered: the processor
+abbrev pub ownerListed : ℕ → Answer ℕ → Answer (List ℕ)
+ownerListed places asked = andThen asked (λ q. into places (q ∷ []))
+
 -- planning
 unfoldable pub planLink : ℕ → ℕ → List ℕ → List ℕ → ℕ → Answer (List ℕ)
 planLink p d extents weights places = planListed places (planAnswer (jobWith p d extents weights))
@@ -38,12 +48,11 @@ diagonalLink p d extents weights places = planListed places (diagonalAnswer (job
 
 -- the owner of a position of the hypercube layout (document 02, request c): the processor
 unfoldable pub hypercubeOwnerLink : ℕ → List ℕ → ℕ → Answer (List ℕ)
-hypercubeOwnerLink p position places = andThen (hypercubeAnswer p position) (λ q. into places (q ∷ []))
+hypercubeOwnerLink p position places = ownerListed places (hypercubeAnswer p position)
 
 -- the owner of a position: the processor
 unfoldable pub ownerLink : List ℕ → List ℕ → ℕ → Answer (List ℕ)
-ownerLink list position places =
-    checked (planListCheck list ∷ []) (andThen (ownerAnswer (layoutOf (planIn list)) position) (λ q. into places (q ∷ [])))
+ownerLink list position places = checked (planListCheck list ∷ []) (ownerListed places (ownerAnswer (layoutOf (planIn list)) position))
 
 -- 1 and the processor, or 0 and 0 for "no neighbour"
 abbrev pub neighbourNumbers : Option ℕ → List ℕ

@@ -1,6 +1,7 @@
 // The link for a solver in C: the proved calls over plain numbers and lists of 32-bit numbers. Each call returns 0, or a refusal's number with its
 // place in the upper 32 bits.
 use chains::Chained;
+use planner::Planned;
 use questions::Neighbour;
 use questions::Owner;
 use tiles::positions;
@@ -12,9 +13,33 @@ use tiles::slabs;
 use tiles::slabs::Elements;
 use tiles::slabs::SlabNumber;
 use timetable::Visited;
+ghost use Prim.Native.Nat.{_≤_};
 ghost use lib.ListN.{length};
+ghost use Rattle.questions.specs.Told.{toldOwner};
 ghost use Rattle.link_lists.specs.Lists.{Linked};
-ghost use Rattle.solver_link.specs.Link.{planLink, diagonalLink, hypercubeOwnerLink, ownerLink, neighbourLink, slabLink, slabOfLink, tileNumberLink, tilePositionLink, stepLink, timetableLink, chainsLink};
+ghost use Rattle.solver_link.specs.Link.{plannedListed, ownerListed, planLink, diagonalLink, hypercubeOwnerLink, ownerLink, neighbourLink, slabLink, slabOfLink, tileNumberLink, tilePositionLink, stepLink, timetableLink, chainsLink};
+
+// What a planning call answered: the answer list gets the plan list.
+fn put_planned(planned: Planned, list: &mut [u32]) -> u64
+    requires { ⌜ planned .plan .d ≤ 5 ⌝ }
+    ensures { λ r. ⌜ Linked (plannedListed (length (now (list .entry))) planned) (now (list .entry)) r (now (list .exit)) ⌝ }
+{
+    if planned.number != 0 {
+        return link_lists::joined(planned.number, planned.place);
+    }
+    let found = planned.plan;
+    link_lists::put_plan(list, found)
+}
+
+// What an owner question answered: the answer list gets the processor.
+fn put_owner(owner: Owner, answer: &mut [u32]) -> u64
+    ensures { λ r. ⌜ Linked (ownerListed (length (now (answer .entry))) (toldOwner owner)) (now (answer .entry)) r (now (answer .exit)) ⌝ }
+{
+    match owner {
+        Owner::Processor(q) => link_lists::put_one(answer, q),
+        Owner::Refused { number, place } => link_lists::joined(number, place),
+    }
+}
 
 // Plans a job: the answer list gets the plan list.
 #[no_mangle]
@@ -28,11 +53,7 @@ pub extern "C" fn multipartition_plan(
     ensures { λ r. ⌜ Linked (planLink processors dimensions (now (extents .entry)) (now (weights .entry)) (length (now (plan .entry)))) (now (plan .entry)) r (now (plan .exit)) ⌝ }
 {
     let planned = planner::plan_job(processors, dimensions as usize, extents, weights);
-    if planned.number != 0 {
-        return link_lists::joined(planned.number, planned.place);
-    }
-    let found = planned.plan;
-    link_lists::put_plan(plan, found)
+    put_planned(planned, plan)
 }
 
 // Plans a job with the diagonal layout: the answer list gets the plan list.
@@ -47,11 +68,7 @@ pub extern "C" fn multipartition_diagonal(
     ensures { λ r. ⌜ Linked (diagonalLink processors dimensions (now (extents .entry)) (now (weights .entry)) (length (now (plan .entry)))) (now (plan .entry)) r (now (plan .exit)) ⌝ }
 {
     let planned = diagonal::diagonal_job(processors, dimensions as usize, extents, weights);
-    if planned.number != 0 {
-        return link_lists::joined(planned.number, planned.place);
-    }
-    let found = planned.plan;
-    link_lists::put_plan(plan, found)
+    put_planned(planned, plan)
 }
 
 // Who owns a position of the hypercube layout: the answer list gets the processor.
@@ -63,11 +80,7 @@ pub extern "C" fn multipartition_hypercube_owner(
 ) -> u64
     ensures { λ r. ⌜ Linked (hypercubeOwnerLink processors (now (position .entry)) (length (now (answer .entry)))) (now (answer .entry)) r (now (answer .exit)) ⌝ }
 {
-    let owner = hypercube::hypercube_owner(processors, position);
-    match owner {
-        Owner::Processor(q) => link_lists::put_one(answer, q),
-        Owner::Refused { number, place } => link_lists::joined(number, place),
-    }
+    put_owner(hypercube::hypercube_owner(processors, position), answer)
 }
 
 // Who owns a position: the answer list gets the processor.
@@ -82,11 +95,7 @@ pub extern "C" fn multipartition_owner<'a>(
     if plan.len() != link_lists::PLAN_LENGTH {
         return 6;
     }
-    let owner = link_lists::owner_in(plan, position);
-    match owner {
-        Owner::Processor(q) => link_lists::put_one(answer, q),
-        Owner::Refused { number, place } => link_lists::joined(number, place),
-    }
+    put_owner(link_lists::owner_in(plan, position), answer)
 }
 
 // Who is the neighbour of a processor along a dimension, up unless `up` is 0: the answer list gets 1 and the processor, or 0 and 0 for nobody.
