@@ -1,6 +1,6 @@
 /* A solver that sweeps a grid of 9 by 9 by 9 elements on 8 processors: it plans the job, looks at who owns the tiles of one slab, asks to whom a
  * processor hands its results when the sweep along dimension 1 goes on to the next slab, goes through that processor's tiles, and prints the
- * timetable of the sweep: what each processor receives, works on and sends in each step.
+ * timetable of the sweep: what each processor receives, works on and sends in each step. Then it asks for the two older layouts.
  *
  *     rt staticlib solver_link
  *     cc -Iinclude examples/sweep.c target/staticlib/libsolver_link.a -o target/sweep && target/sweep
@@ -19,6 +19,21 @@ static void check(uint64_t returned)
     if (returned != MULTIPARTITION_ANSWERED) {
         printf("refused %d %" PRIu32 "\n", (int)multipartition_number_of(returned), multipartition_place_of(returned));
         exit(EXIT_FAILURE);
+    }
+}
+
+/* Who owns the tiles of a slab of dimension 1: a row for each slab of dimension 2. */
+static void print_owners(const uint32_t *plan, uint32_t slab)
+{
+    const uint32_t *cuts = plan + MULTIPARTITION_CUTS;
+    for (uint32_t j = 0; j < cuts[1]; j++) {
+        for (uint32_t k = 0; k < cuts[2]; k++) {
+            const uint32_t position[D] = {slab, j, k};
+            uint32_t owner[MULTIPARTITION_OWNER_LENGTH];
+            check(multipartition_owner(plan, MULTIPARTITION_PLAN_LENGTH, position, D, owner, MULTIPARTITION_OWNER_LENGTH));
+            printf(" %" PRIu32, owner[MULTIPARTITION_OWNER]);
+        }
+        printf("\n");
     }
 }
 
@@ -70,6 +85,20 @@ static void sweep_up(const uint32_t *plan)
         }
 }
 
+/* The layouts of older input decks. The diagonal layout of three dimensions needs a square number of processors, so this plan of the grid is for 4;
+ * it is asked like any other. The hypercube layout has no plan list. */
+static void older_layouts(const uint32_t extents[D], const uint32_t weights[D])
+{
+    uint32_t plan[MULTIPARTITION_PLAN_LENGTH], owner[MULTIPARTITION_HYPERCUBE_OWNER_LENGTH];
+    const uint32_t position[3] = {3, 0, 2};
+    check(multipartition_diagonal(4, D, extents, D, weights, D, plan, MULTIPARTITION_PLAN_LENGTH));
+    printf("in the diagonal layout of 4 processors the tiles belong to\n");
+    for (uint32_t slab = 0; slab < plan[MULTIPARTITION_CUTS]; slab++)
+        print_owners(plan, slab);
+    check(multipartition_hypercube_owner(16, position, 3, owner, MULTIPARTITION_HYPERCUBE_OWNER_LENGTH));
+    printf("in the hypercube layout of 16 processors the tile at 3 0 2 belongs to %" PRIu32 "\n", owner[MULTIPARTITION_HYPERCUBE_OWNER]);
+}
+
 int main(void)
 {
     const uint32_t extents[D] = {9, 9, 9};
@@ -84,15 +113,7 @@ int main(void)
     check(multipartition_slab(plan, MULTIPARTITION_PLAN_LENGTH, DIMENSION, SLAB, elements, MULTIPARTITION_SLAB_LENGTH));
     printf("slab %d of dimension %d has elements %" PRIu32 " to %" PRIu32 "; its tiles belong to\n", SLAB, DIMENSION,
            elements[MULTIPARTITION_SLAB_FIRST], elements[MULTIPARTITION_SLAB_AFTER] - 1);
-    for (uint32_t j = 0; j < cuts[1]; j++) {
-        for (uint32_t k = 0; k < cuts[2]; k++) {
-            const uint32_t position[D] = {SLAB, j, k};
-            uint32_t owner[MULTIPARTITION_OWNER_LENGTH];
-            check(multipartition_owner(plan, MULTIPARTITION_PLAN_LENGTH, position, D, owner, MULTIPARTITION_OWNER_LENGTH));
-            printf(" %" PRIu32, owner[MULTIPARTITION_OWNER]);
-        }
-        printf("\n");
-    }
+    print_owners(plan, SLAB);
 
     uint32_t next[MULTIPARTITION_NEIGHBOUR_LENGTH];
     check(multipartition_neighbour(plan, MULTIPARTITION_PLAN_LENGTH, PROCESSOR, DIMENSION, 1, next, MULTIPARTITION_NEIGHBOUR_LENGTH));
@@ -102,5 +123,6 @@ int main(void)
         printf("dimension %d is uncut\n", DIMENSION);
     hand_on(plan);
     sweep_up(plan);
+    older_layouts(extents, weights);
     return EXIT_SUCCESS;
 }

@@ -9,13 +9,15 @@
  * - Every call returns. It returns 0 and has written every place of its answer lists, or it returns a refusal and has written nothing.
  *   The refusal is the first of the table below that applies.
  * - What a call returns and writes is settled by its numbers and its lists alone, and it writes no other list.
- * - A plan list is any list of 49 numbers. One that multipartition_plan wrote is in shape, and its tiles are even: every processor owns
- *   equally many tiles in every slab of every dimension. One that is made or changed by hand is answered by the same formulas where it is
- *   in shape, and refused with 6 where it is not.
+ * - A plan list is any list of 50 numbers. One that multipartition_plan or multipartition_diagonal wrote is in shape, and its tiles are even: every
+ *   processor owns equally many tiles in every slab of every dimension. One that is made or changed by hand is answered by the same formulas where
+ *   it is in shape, and refused with 6 where it is not; of such a list it is not said that its tiles are even, whatever its kind.
  * - The answers of multipartition_timetable fit together, for every plan list in shape: what a processor sends after a step is exactly what its
  *   receiver expects before the next, and the receiver names the sender; except after the last step, the lengths that all processors send after a
  *   step add up to the product of the extents of the other dimensions; no length is cut off to 32 bits. For a list that multipartition_plan wrote,
  *   every processor works on exactly tiles / (cut * p) tiles in every step.
+ * - The owners that multipartition_hypercube_owner gives for two tiles with a common face differ in one bit if the face is along dimension 1 or 2,
+ *   and in two bits if it is along dimension 3.
  *
  * What follows from it: a call reads and writes its lists and its own stack and nothing else. The archive has no variables, asks for no
  * memory and calls nothing but memcpy and memset. So calls from several threads need no lock, as long as no list is written in one thread
@@ -36,8 +38,9 @@ extern "C" {
 #endif
 
 /* The places of a plan list. Extents, weights, cuts and moduli have five places each, for dimension 1 first; the matrix has five rows of
- * five places, row after row. Places past the number of dimensions are 0 in a planned list, and are never read. The cost is the sum of
- * (cut - 1) * weight over the dimensions; in a list made before it was counted so it is larger by the sum of the weights. No question reads it. */
+ * five places, row after row. Places past the number of dimensions are 0 in a list that a call wrote, and are never read. The cost is the sum of
+ * (cut - 1) * weight over the dimensions; no question reads it. The kind says which call wrote the list; no answer depends on which of the two it
+ * is. Lists had 49 numbers before they had a kind: such a list is refused with 6. */
 enum {
     MULTIPARTITION_DIMENSIONS = 0, /* d, the number of dimensions */
     MULTIPARTITION_PROCESSORS = 1, /* p, the number of processors */
@@ -48,14 +51,24 @@ enum {
     MULTIPARTITION_COST_HIGH = 18,
     MULTIPARTITION_MODULI = 19,
     MULTIPARTITION_MATRIX = 24,
-    MULTIPARTITION_PLAN_LENGTH = 49,
+    MULTIPARTITION_KIND = 49, /* 0 for the planner's plans, 1 for diagonal ones; a list with another kind is out of shape */
+    MULTIPARTITION_PLAN_LENGTH = 50,
     MULTIPARTITION_ROW_LENGTH = 5 /* row i, counted from 0, starts at MULTIPARTITION_MATRIX + i * MULTIPARTITION_ROW_LENGTH */
+};
+
+/* The kinds of a plan. */
+enum {
+    MULTIPARTITION_KIND_PLANNED = 0, /* by multipartition_plan */
+    MULTIPARTITION_KIND_DIAGONAL = 1 /* by multipartition_diagonal */
 };
 
 /* The places of the other answer lists. */
 enum {
     MULTIPARTITION_OWNER = 0, /* the processor */
     MULTIPARTITION_OWNER_LENGTH = 1,
+
+    MULTIPARTITION_HYPERCUBE_OWNER = 0, /* the processor */
+    MULTIPARTITION_HYPERCUBE_OWNER_LENGTH = 1,
 
     MULTIPARTITION_NEIGHBOUR_FOUND = 0, /* 1, or 0 if there is no neighbour */
     MULTIPARTITION_NEIGHBOUR = 1,       /* the processor, or 0 if there is no neighbour */
@@ -94,7 +107,7 @@ enum {
     MULTIPARTITION_PLAN_STACK = 73728,
     MULTIPARTITION_CHAINS_STACK = 12288,
     MULTIPARTITION_TIMETABLE_STACK = 49152,
-    MULTIPARTITION_QUESTION_STACK = 8192 /* all other calls */
+    MULTIPARTITION_QUESTION_STACK = 8192 /* all other calls, multipartition_diagonal too */
 };
 
 /* What a call returns: 0, or a refusal's number in the lower 32 bits and its place in the upper 32. Refusals stand here in the order in which they
@@ -103,10 +116,11 @@ enum multipartition_number {
     MULTIPARTITION_ANSWERED = 0,
     MULTIPARTITION_BAD_DIMENSIONS = 1,     /* d is not 2 to 5 */
     MULTIPARTITION_BAD_PROCESSORS = 2,     /* p is not 1 to 4,096 */
+    MULTIPARTITION_UNSUITED = 12,          /* p or d does not suit the layout */
     MULTIPARTITION_BAD_JOB_LENGTH = 3,     /* not d extents and d weights */
     MULTIPARTITION_BAD_EXTENT = 4,         /* an extent is not 1 to 1,000,000; the place is the first such dimension */
-    MULTIPARTITION_NO_CUTS = 5,            /* no cuts that fit are even */
-    MULTIPARTITION_BAD_PLAN = 6,           /* the plan list has another length than 49, or its plan is out of shape */
+    MULTIPARTITION_NO_CUTS = 5,            /* no cuts that fit are even; or a cut of the diagonal layout is above its extent */
+    MULTIPARTITION_BAD_PLAN = 6,           /* the plan list has another length than 50, or its plan is out of shape */
     MULTIPARTITION_BAD_DIMENSION = 7,      /* the dimension is not 1 to d */
     MULTIPARTITION_OTHER_EXTENTS = 11,     /* the product of the extents of the other dimensions is above 4,294,967,295 */
     MULTIPARTITION_OUT_OF_RANGE = 8,       /* a slab, element, tile, coordinate, step or processor out of range, or not d coordinates */
@@ -125,16 +139,33 @@ static inline uint32_t multipartition_place_of(uint64_t returned)
 }
 
 /* Plans a job: the even cuts that fit and cost least, and the rule that says who owns each tile.
- * The answer list is a plan list. Refused with 1 to 5, then 9. */
+ * The answer list is a plan list. Refused with 1, 2, 3, 4, 5, then 9. */
 uint64_t multipartition_plan(uint32_t processors, uint32_t dimensions,
                              const uint32_t *extents, size_t extents_length,
                              const uint32_t *weights, size_t weights_length,
                              uint32_t *plan, size_t plan_length);
 
+/* Plans a job with the diagonal layout. For d = 2 there are p cuts each way, and the tile at i1 i2 belongs to (i1 - i2) modulo p. For d = 3 and
+ * p = s * s there are s cuts each way, and the tile at i1 i2 i3 belongs to ((i1 - i3) modulo s) * s + ((i2 - i3) modulo s). Here i counts from 0,
+ * and a number modulo m is 0 to m - 1, also where the number is negative. multipartition_plan accepts every job that this call accepts, and costs no
+ * more. The answer list is a plan list. Refused with 1, 2, 12 (d is 4 or 5, or d is 3 and p is not a square), 3, 4, 5, then 9. */
+uint64_t multipartition_diagonal(uint32_t processors, uint32_t dimensions,
+                                 const uint32_t *extents, size_t extents_length,
+                                 const uint32_t *weights, size_t weights_length,
+                                 uint32_t *plan, size_t plan_length);
+
 /* Who owns the tile at a position. Refused with 6, 8, 9. */
 uint64_t multipartition_owner(const uint32_t *plan, size_t plan_length,
                               const uint32_t *position, size_t position_length,
                               uint32_t *answer, size_t answer_length);
+
+/* Who owns the tile at a position of the hypercube layout, which has no plan list: p is 4 to the power e, with e from 0 to 6, and each of three
+ * dimensions has 2 to the power e slabs. The owner of the tile at i1 i2 i3 has the code of i2 + i3 in its upper e bits and that of i1 + i3 in its
+ * lower e bits, both sums modulo 2 to the power e; the code is the reflected Gray code, in which r becomes r ^ (r / 2). Refused with 2, 12 (p is not
+ * a power of 4), 8 (not three coordinates, or one is not below 2 to the power e), 9. */
+uint64_t multipartition_hypercube_owner(uint32_t processors,
+                                        const uint32_t *position, size_t position_length,
+                                        uint32_t *answer, size_t answer_length);
 
 /* Who owns the tiles one step from a processor's tiles along a dimension: upward, or downward if `up` is 0. There is no neighbour where
  * the dimension is uncut. Refused with 6, 7, 8, 9. */

@@ -1,5 +1,6 @@
-/* Every named place of every list, against figures. Those of the job, the cuts and the halves of the cost all differ; of the moduli and the matrix
- * as many as the formulas allow, and plan_by_hand has others. Lists stand at the beginning of longer ones, whose other numbers agree with none. */
+/* Every named place of every list, against figures. Those of the planner's job, the cuts and the halves of the cost all differ; of the moduli and
+ * the matrix as many as the formulas allow, and plan_by_hand has others. Lists stand at the beginning of longer ones, whose other numbers agree with
+ * none. */
 #include <inttypes.h>
 #include <stdio.h>
 #include <stdlib.h>
@@ -7,8 +8,10 @@
 #include "multipartition.h"
 
 /* Each call once more: a header that declares another type for one does not compile. */
-uint64_t multipartition_plan(uint32_t, uint32_t, const uint32_t *, size_t, const uint32_t *, size_t, uint32_t *, size_t);
+typedef uint64_t planning(uint32_t, uint32_t, const uint32_t *, size_t, const uint32_t *, size_t, uint32_t *, size_t);
+planning multipartition_plan, multipartition_diagonal;
 uint64_t multipartition_owner(const uint32_t *, size_t, const uint32_t *, size_t, uint32_t *, size_t);
+uint64_t multipartition_hypercube_owner(uint32_t, const uint32_t *, size_t, uint32_t *, size_t);
 uint64_t multipartition_neighbour(const uint32_t *, size_t, uint32_t, uint32_t, uint32_t, uint32_t *, size_t);
 uint64_t multipartition_slab(const uint32_t *, size_t, uint32_t, uint32_t, uint32_t *, size_t);
 uint64_t multipartition_slab_of(const uint32_t *, size_t, uint32_t, uint32_t, uint32_t *, size_t);
@@ -48,25 +51,63 @@ static void expect_five(const char *what, const uint32_t *found, const uint32_t 
         expect(what, found[k], figures[k]);
 }
 
-static const uint32_t extents[D] = {101, 67, 41, 999983, 211};
-static const uint32_t weights[D] = {3569424485, 1132923280, 2664946055, 1861655, 1862693460};
-static const uint32_t cuts[D] = {4, 14, 6, 420, 10};
-static const uint32_t moduli[D] = {1, 2, 2, 84, 10};
-static const uint32_t matrix[D][D] = {{0, 0, 0, 0, 0}, {1, 1, 0, 0, 0}, {0, 1, 1, 0, 0}, {83, 12, 70, 1, 0}, {1, 8, 3, 9, 1}};
+/* A job and its plan. */
+struct figures {
+    uint32_t p, d, extents[D], weights[D], cuts[D], cost_low, cost_high, moduli[D], matrix[D][D], kind;
+};
 
-static void plan_places(uint32_t plan[ROOM])
+static const struct figures planned = {
+    3360, D, {101, 67, 41, 999983, 211}, {3569424485, 1132923280, 2664946055, 1861655, 1862693460}, {4, 14, 6, 420, 10}, 470706107, 13,
+    {1, 2, 2, 84, 10}, {{0, 0, 0, 0, 0}, {1, 1, 0, 0, 0}, {0, 1, 1, 0, 0}, {83, 12, 70, 1, 0}, {1, 8, 3, 9, 1}}, 0};
+static const struct figures diagonal_of_three = {
+    1369, 3, {101, 67, 41}, {3569424485, 1132923280, 2664946055}, {37, 37, 37}, 3229572464, 61, {1, 37, 37}, {{0}, {1, 0, 36}, {0, 1, 36}}, 1};
+static const struct figures diagonal_of_two = {
+    4093, 2, {999983, 4211}, {3569424485, 1132923280}, {4093, 4093}, 553568300, 4480, {1, 4093}, {{0}, {1, 4092}}, 1};
+
+static void plan_places(uint32_t plan[ROOM], planning *call, const struct figures *job)
 {
-    EXPECT(multipartition_plan(3360, D, extents, D, weights, D, ready(plan), MULTIPARTITION_PLAN_LENGTH), MULTIPARTITION_ANSWERED);
-    EXPECT(plan[MULTIPARTITION_DIMENSIONS], D);
-    EXPECT(plan[MULTIPARTITION_PROCESSORS], 3360);
-    expect_five("an extent", plan + MULTIPARTITION_EXTENTS, extents);
-    expect_five("a weight", plan + MULTIPARTITION_WEIGHTS, weights);
-    expect_five("a cut", plan + MULTIPARTITION_CUTS, cuts);
-    EXPECT(plan[MULTIPARTITION_COST_LOW], 470706107);
-    EXPECT(plan[MULTIPARTITION_COST_HIGH], 13);
-    expect_five("a modulus", plan + MULTIPARTITION_MODULI, moduli);
+    const uint32_t d = job->d;
+    EXPECT(call(job->p, d, job->extents, d, job->weights, d, ready(plan), MULTIPARTITION_PLAN_LENGTH), MULTIPARTITION_ANSWERED);
+    EXPECT(plan[MULTIPARTITION_DIMENSIONS], d);
+    EXPECT(plan[MULTIPARTITION_PROCESSORS], job->p);
+    expect_five("an extent", plan + MULTIPARTITION_EXTENTS, job->extents);
+    expect_five("a weight", plan + MULTIPARTITION_WEIGHTS, job->weights);
+    expect_five("a cut", plan + MULTIPARTITION_CUTS, job->cuts);
+    EXPECT(plan[MULTIPARTITION_COST_LOW], job->cost_low);
+    EXPECT(plan[MULTIPARTITION_COST_HIGH], job->cost_high);
+    expect_five("a modulus", plan + MULTIPARTITION_MODULI, job->moduli);
     for (int i = 0; i < D; i++)
-        expect_five("a matrix entry", plan + MULTIPARTITION_MATRIX + i * MULTIPARTITION_ROW_LENGTH, matrix[i]);
+        expect_five("a matrix entry", plan + MULTIPARTITION_MATRIX + i * MULTIPARTITION_ROW_LENGTH, job->matrix[i]);
+    EXPECT(plan[MULTIPARTITION_KIND], job->kind);
+}
+
+/* The two kinds, and that owners are those of the diagonal formulas: (17 - 4000) modulo 4093; (5 - 11) modulo 37 and (30 - 11) modulo 37. */
+static void diagonal_places(void)
+{
+    const size_t n = MULTIPARTITION_PLAN_LENGTH;
+    const uint32_t of_two[2] = {17, 4000}, of_three[3] = {5, 30, 11};
+    uint32_t plan[ROOM], answer[ROOM];
+    EXPECT(MULTIPARTITION_KIND_PLANNED, planned.kind);
+    EXPECT(MULTIPARTITION_KIND_DIAGONAL, diagonal_of_two.kind);
+    plan_places(plan, multipartition_diagonal, &diagonal_of_two);
+    EXPECT(multipartition_owner(plan, n, of_two, 2, ready(answer), MULTIPARTITION_OWNER_LENGTH), 0);
+    EXPECT(answer[MULTIPARTITION_OWNER], 110);
+    plan_places(plan, multipartition_diagonal, &diagonal_of_three);
+    EXPECT(multipartition_owner(plan, n, of_three, 3, ready(answer), MULTIPARTITION_OWNER_LENGTH), 0);
+    EXPECT(answer[MULTIPARTITION_OWNER], 31 * 37 + 19);
+}
+
+static void hypercube_places(void)
+{
+    const struct {
+        uint32_t p, position[3], owner;
+    } figures[] = {{1, {0, 0, 0}, 0},   {4, {1, 0, 1}, 2},          {16, {3, 0, 2}, 13},      {16, {1, 2, 3}, 4},
+                   {64, {5, 6, 7}, 62}, {4096, {63, 63, 63}, 2145}, {4096, {0, 0, 63}, 2080}, {4096, {5, 40, 19}, 2452}};
+    for (size_t i = 0; i < sizeof figures / sizeof *figures; i++) {
+        uint32_t answer[ROOM];
+        EXPECT(multipartition_hypercube_owner(figures[i].p, figures[i].position, 3, ready(answer), MULTIPARTITION_HYPERCUBE_OWNER_LENGTH), 0);
+        EXPECT(answer[MULTIPARTITION_HYPERCUBE_OWNER], figures[i].owner);
+    }
 }
 
 static void answer_places(const uint32_t *plan)
@@ -147,13 +188,14 @@ static void largest_length(void)
     const size_t n = MULTIPARTITION_PLAN_LENGTH;
     const uint32_t three_extents[3] = {65535, 65537, 2};
     uint32_t plan[ROOM], answer[ROOM];
-    EXPECT(multipartition_plan(1, 3, three_extents, 3, weights, 3, ready(plan), n), 0);
+    EXPECT(multipartition_plan(1, 3, three_extents, 3, planned.weights, 3, ready(plan), n), 0);
     plan[MULTIPARTITION_CUTS + 2] = 2;
     EXPECT(multipartition_timetable(plan, n, 3, 1, 0, 0, ready(answer), MULTIPARTITION_TIMETABLE_LENGTH), 0);
     EXPECT(answer[MULTIPARTITION_TIMETABLE_SEND_LENGTH], UINT32_MAX);
 }
 
-/* A plan made by hand, through the names. The tile one step from the first along dimension k has column k as its coordinates. */
+/* A plan made by hand, through the names; its owners are the same with either kind. The tile one step from the first along dimension k has column k
+ * as its coordinates. */
 static void plan_by_hand(void)
 {
     const size_t n = MULTIPARTITION_PLAN_LENGTH;
@@ -165,8 +207,8 @@ static void plan_by_hand(void)
     plan[MULTIPARTITION_DIMENSIONS] = D;
     plan[MULTIPARTITION_PROCESSORS] = 4032;
     for (int i = 0; i < D; i++) {
-        plan[MULTIPARTITION_EXTENTS + i] = extents[i];
-        plan[MULTIPARTITION_CUTS + i] = cuts[i];
+        plan[MULTIPARTITION_EXTENTS + i] = planned.extents[i];
+        plan[MULTIPARTITION_CUTS + i] = planned.cuts[i];
         plan[MULTIPARTITION_MODULI + i] = hand_moduli[i];
         for (int k = 0; k < D; k++)
             plan[MULTIPARTITION_MATRIX + i * MULTIPARTITION_ROW_LENGTH + k] = rows[i][k];
@@ -174,6 +216,10 @@ static void plan_by_hand(void)
     for (int k = 0; k < D; k++) {
         uint32_t position[D] = {0};
         position[k] = 1;
+        plan[MULTIPARTITION_KIND] = MULTIPARTITION_KIND_PLANNED;
+        EXPECT(multipartition_owner(plan, n, position, D, ready(answer), MULTIPARTITION_OWNER_LENGTH), 0);
+        EXPECT(answer[MULTIPARTITION_OWNER], owners[k]);
+        plan[MULTIPARTITION_KIND] = MULTIPARTITION_KIND_DIAGONAL;
         EXPECT(multipartition_owner(plan, n, position, D, ready(answer), MULTIPARTITION_OWNER_LENGTH), 0);
         EXPECT(answer[MULTIPARTITION_OWNER], owners[k]);
     }
@@ -218,7 +264,7 @@ static void refusal_place(void)
 {
     const uint32_t last_bad[D] = {8, 8, 8, 8, 0};
     uint32_t plan[ROOM];
-    const uint64_t returned = multipartition_plan(4, D, last_bad, D, weights, D, ready(plan), MULTIPARTITION_PLAN_LENGTH);
+    const uint64_t returned = multipartition_plan(4, D, last_bad, D, planned.weights, D, ready(plan), MULTIPARTITION_PLAN_LENGTH);
     EXPECT(multipartition_number_of(returned), MULTIPARTITION_BAD_EXTENT);
     EXPECT(multipartition_place_of(returned), 5);
 }
@@ -226,7 +272,7 @@ static void refusal_place(void)
 int main(void)
 {
     uint32_t plan[ROOM];
-    plan_places(plan);
+    plan_places(plan, multipartition_plan, &planned);
     answer_places(plan);
     step_places(plan);
     step_lengths();
@@ -235,6 +281,8 @@ int main(void)
     refusal_place();
     plan_by_hand();
     chain_lists();
+    diagonal_places();
+    hypercube_places();
     if (failures == 0)
         printf("every place is as named\n");
     return failures == 0 ? EXIT_SUCCESS : EXIT_FAILURE;

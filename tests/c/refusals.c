@@ -51,35 +51,109 @@ static void expect_kept(const char *what, uint32_t *list, size_t length)
 
 /* ---- jobs */
 
-static void job(const char *what, uint32_t p, uint32_t d, size_t extents_length, uint32_t extent, uint32_t last_extent, size_t weights_length,
-                size_t plan_length, enum multipartition_number number, uint32_t place)
+typedef uint64_t planning(uint32_t, uint32_t, const uint32_t *, size_t, const uint32_t *, size_t, uint32_t *, size_t);
+
+static void job(planning *call, const char *what, uint32_t p, uint32_t d, size_t extents_length, uint32_t extent, uint32_t last_extent,
+                size_t weights_length, size_t plan_length, enum multipartition_number number, uint32_t place)
 {
     uint32_t *extents = filled(extents_length, extent);
     uint32_t *weights = filled(weights_length, 1);
     uint32_t *plan = filled(plan_length, KEPT);
     if (extents_length)
         extents[extents_length - 1] = last_extent;
-    expect(what, multipartition_plan(p, d, extents, extents_length, weights, weights_length, plan, plan_length), number, place);
+    expect(what, call(p, d, extents, extents_length, weights, weights_length, plan, plan_length), number, place);
     expect_kept(what, plan, plan_length);
     free(extents);
     free(weights);
 }
 
-static void jobs(void)
+/* Refusals that the planner and the diagonal layout have in common. */
+static void jobs(planning *call)
 {
     const size_t n = MULTIPARTITION_PLAN_LENGTH;
-    job("d too small", 4, 1, 1, 8, 8, 1, n, MULTIPARTITION_BAD_DIMENSIONS, 0);
-    job("d too large", 0, 6, 0, 8, 8, 0, n, MULTIPARTITION_BAD_DIMENSIONS, 0);
-    job("no processor", 0, 2, 0, 8, 8, 0, n, MULTIPARTITION_BAD_PROCESSORS, 0);
-    job("too many processors", 4097, 2, 2, 8, 8, 2, n, MULTIPARTITION_BAD_PROCESSORS, 0);
-    job("too few extents", 4, 3, 2, 8, 8, 3, n, MULTIPARTITION_BAD_JOB_LENGTH, 0);
-    job("too many weights", 4, 3, 3, 0, 0, 4, n, MULTIPARTITION_BAD_JOB_LENGTH, 0);
-    job("first extent 0", 4, 3, 3, 0, 8, 3, n, MULTIPARTITION_BAD_EXTENT, 1);
-    job("last extent too large", 4, 3, 3, 8, 1000001, 3, n, MULTIPARTITION_BAD_EXTENT, 3);
-    job("no cuts", 4, 2, 2, 3, 8, 2, n, MULTIPARTITION_NO_CUTS, 0);
-    job("no cuts before the length", 4, 2, 2, 3, 8, 2, 0, MULTIPARTITION_NO_CUTS, 0);
-    job("plan list too short", 4, 3, 3, 8, 8, 3, n - 1, MULTIPARTITION_BAD_ANSWER_LENGTH, 0);
-    job("plan list too long", 4, 3, 3, 8, 8, 3, n + 1, MULTIPARTITION_BAD_ANSWER_LENGTH, 0);
+    job(call, "d too small", 4, 1, 1, 8, 8, 1, n, MULTIPARTITION_BAD_DIMENSIONS, 0);
+    job(call, "d too large", 0, 6, 0, 8, 8, 0, n, MULTIPARTITION_BAD_DIMENSIONS, 0);
+    job(call, "no processor", 0, 2, 0, 8, 8, 0, n, MULTIPARTITION_BAD_PROCESSORS, 0);
+    job(call, "too many processors", 4097, 2, 2, 8, 8, 2, n, MULTIPARTITION_BAD_PROCESSORS, 0);
+    job(call, "too few extents", 4, 3, 2, 8, 8, 3, n, MULTIPARTITION_BAD_JOB_LENGTH, 0);
+    job(call, "too many weights", 4, 3, 3, 0, 0, 4, n, MULTIPARTITION_BAD_JOB_LENGTH, 0);
+    job(call, "first extent 0", 4, 3, 3, 0, 8, 3, n, MULTIPARTITION_BAD_EXTENT, 1);
+    job(call, "last extent too large", 4, 3, 3, 8, 1000001, 3, n, MULTIPARTITION_BAD_EXTENT, 3);
+    job(call, "extent before cuts", 4, 2, 2, 3, 0, 2, 0, MULTIPARTITION_BAD_EXTENT, 2);
+    job(call, "no cuts", 4, 2, 2, 3, 8, 2, n, MULTIPARTITION_NO_CUTS, 0);
+    job(call, "no cuts before the length", 4, 2, 2, 3, 8, 2, 0, MULTIPARTITION_NO_CUTS, 0);
+    job(call, "plan list too short", 4, 3, 3, 8, 8, 3, n - 1, MULTIPARTITION_BAD_ANSWER_LENGTH, 0);
+    job(call, "plan list too long", 4, 3, 3, 8, 8, 3, n + 1, MULTIPARTITION_BAD_ANSWER_LENGTH, 0);
+}
+
+/* A job of the diagonal layout. */
+static void diagonal(const char *what, uint32_t p, uint32_t d, size_t extents_length, uint32_t extent, uint32_t last_extent, size_t plan_length,
+                     enum multipartition_number number)
+{
+    job(multipartition_diagonal, what, p, d, extents_length, extent, last_extent, d, plan_length, number, 0);
+}
+
+/* What suits the layout, after 2 and before 3, each where later refusals apply too; and cuts that do not fit where the planner finds others. */
+static void diagonals(void)
+{
+    const size_t n = MULTIPARTITION_PLAN_LENGTH;
+    const uint32_t extents[3] = {16, 16, 3}, weights[3] = {1, 1, 1};
+    uint32_t plan[MULTIPARTITION_PLAN_LENGTH];
+    diagonal("d too large before suited", 5, 6, 0, 0, 0, 0, MULTIPARTITION_BAD_DIMENSIONS);
+    diagonal("no processor before suited", 0, 4, 0, 0, 0, 0, MULTIPARTITION_BAD_PROCESSORS);
+    diagonal("too many processors before suited", 4097, 3, 0, 0, 0, 0, MULTIPARTITION_BAD_PROCESSORS);
+    diagonal("four dimensions", 16, 4, 0, 0, 0, 0, MULTIPARTITION_UNSUITED);
+    diagonal("four dimensions", 8, 4, 4, 8, 8, n, MULTIPARTITION_UNSUITED);
+    diagonal("five dimensions", 1, 5, 5, 1, 1, n, MULTIPARTITION_UNSUITED);
+    diagonal("no square before the lists", 5, 3, 2, 0, 0, 0, MULTIPARTITION_UNSUITED);
+    diagonal("no square before an extent", 4095, 3, 3, 64, 0, 0, MULTIPARTITION_UNSUITED);
+    diagonal("no square", 6, 3, 3, 9, 9, n, MULTIPARTITION_UNSUITED);
+    diagonal("a cut above its extent", 4096, 3, 3, 64, 63, n, MULTIPARTITION_NO_CUTS);
+    diagonal("a cut above its extent", 4093, 2, 2, 4092, 4093, 0, MULTIPARTITION_NO_CUTS);
+    diagonal("a cut above its extent", 16, 3, 3, 16, 3, n, MULTIPARTITION_NO_CUTS);
+    expect("cuts of the planner", multipartition_plan(16, 3, extents, 3, weights, 3, plan, n), MULTIPARTITION_ANSWERED, 0);
+    expect("just the cuts", multipartition_diagonal(9, 3, extents, 3, weights, 3, plan, n), MULTIPARTITION_ANSWERED, 0);
+}
+
+/* ---- the hypercube layout */
+
+/* A position of so many equal coordinates but one. */
+static void hypercube(const char *what, uint32_t p, size_t position_length, uint32_t coordinate, size_t at, uint32_t other, size_t answer_length,
+                      enum multipartition_number number)
+{
+    uint32_t *position = filled(position_length, coordinate);
+    uint32_t *answer = filled(answer_length, KEPT);
+    if (at < position_length)
+        position[at] = other;
+    expect(what, multipartition_hypercube_owner(p, position, position_length, answer, answer_length), number, 0);
+    expect_kept(what, answer, answer_length);
+    free(position);
+}
+
+/* Each refusal where all later ones apply too, and each without them. */
+static void hypercubes(void)
+{
+    const size_t a = MULTIPARTITION_HYPERCUBE_OWNER_LENGTH;
+    const uint32_t beyond[] = {0, 4097, 16384, UINT32_MAX}, unsuited[] = {2, 3, 8, 32, 1000, 2048, 4095};
+    for (size_t i = 0; i < sizeof beyond / sizeof *beyond; i++) {
+        hypercube("processors out of range", beyond[i], 2, 64, 0, 64, 0, MULTIPARTITION_BAD_PROCESSORS);
+        hypercube("processors out of range", beyond[i], 3, 0, 0, 0, a, MULTIPARTITION_BAD_PROCESSORS);
+    }
+    for (size_t i = 0; i < sizeof unsuited / sizeof *unsuited; i++) {
+        hypercube("no power of 4", unsuited[i], 2, 64, 0, 64, 0, MULTIPARTITION_UNSUITED);
+        hypercube("no power of 4", unsuited[i], 3, 0, 0, 0, a, MULTIPARTITION_UNSUITED);
+    }
+    for (uint32_t p = 1, side = 1; p <= 4096; p *= 4, side *= 2) {
+        hypercube("no position", p, 0, 0, 0, 0, 0, MULTIPARTITION_OUT_OF_RANGE);
+        hypercube("two coordinates", p, 2, 0, 0, 0, a, MULTIPARTITION_OUT_OF_RANGE);
+        hypercube("four coordinates", p, 4, 0, 0, 0, a, MULTIPARTITION_OUT_OF_RANGE);
+        for (size_t k = 0; k < 3; k++) {
+            hypercube("coordinate too large", p, 3, 0, k, side, 0, MULTIPARTITION_OUT_OF_RANGE);
+            hypercube("coordinate too large", p, 3, side - 1, k, UINT32_MAX, a, MULTIPARTITION_OUT_OF_RANGE);
+        }
+        hypercube("no answer list", p, 3, side - 1, 0, 0, 0, MULTIPARTITION_BAD_ANSWER_LENGTH);
+        hypercube("answer list too long", p, 3, side - 1, 0, 0, a + 1, MULTIPARTITION_BAD_ANSWER_LENGTH);
+    }
 }
 
 /* ---- questions */
@@ -132,7 +206,10 @@ static void visits(void)
     const uint32_t large[3] = {65536, 65536, 65536}, small[3] = {65535, 65537, 2}, weights[3] = {1, 1, 1};
     uint32_t plan[MULTIPARTITION_PLAN_LENGTH], answer[MULTIPARTITION_TIMETABLE_LENGTH];
     expect("a large job", multipartition_plan(2, 3, large, 3, weights, 3, plan, n), MULTIPARTITION_ANSWERED, 0);
-    visit("sweep by a short plan list", plan, n - 1, 0, 2, 2, 0, MULTIPARTITION_BAD_PLAN);
+    visit("sweep by a plan list without a kind", plan, 49, 0, 2, 2, 0, MULTIPARTITION_BAD_PLAN);
+    plan[MULTIPARTITION_KIND] = 2;
+    visit("sweep by a plan of another kind", plan, n, 0, 2, 2, 0, MULTIPARTITION_BAD_PLAN);
+    plan[MULTIPARTITION_KIND] = MULTIPARTITION_KIND_PLANNED;
     plan[MULTIPARTITION_MODULI] = 0;
     visit("sweep by a plan out of shape", plan, n, 0, 2, 2, 0, MULTIPARTITION_BAD_PLAN);
     plan[MULTIPARTITION_MODULI] = 1;
@@ -184,14 +261,19 @@ int main(void)
     const size_t n = MULTIPARTITION_PLAN_LENGTH;
     const uint32_t extents[3] = {8, 8, 8};
     const uint32_t weights[3] = {1, 1, 1};
-    uint32_t plan[MULTIPARTITION_PLAN_LENGTH];
-    jobs();
+    uint32_t plan[MULTIPARTITION_PLAN_LENGTH], diagonal_plan[MULTIPARTITION_PLAN_LENGTH];
+    jobs(multipartition_plan);
+    jobs(multipartition_diagonal);
+    diagonals();
+    hypercubes();
     visits();
     expect("a job", multipartition_plan(4, 3, extents, 3, weights, 3, plan, n), MULTIPARTITION_ANSWERED, 0);
+    expect("a job", multipartition_diagonal(4, 3, extents, 3, weights, 3, diagonal_plan, n), MULTIPARTITION_ANSWERED, 0);
 
     const struct question good = {3, 3, 1, 7, 8, 1, 3, 2};
     questions("plan list empty", plan, 0, good, MULTIPARTITION_BAD_PLAN, MULTIPARTITION_BAD_PLAN);
-    questions("plan list too short", plan, n - 1, good, MULTIPARTITION_BAD_PLAN, MULTIPARTITION_BAD_PLAN);
+    questions("plan list without a kind", plan, 49, good, MULTIPARTITION_BAD_PLAN, MULTIPARTITION_BAD_PLAN);
+    questions("diagonal plan list without a kind", diagonal_plan, 49, good, MULTIPARTITION_BAD_PLAN, MULTIPARTITION_BAD_PLAN);
     questions("plan list too long", plan, n + 1, good, MULTIPARTITION_BAD_PLAN, MULTIPARTITION_BAD_PLAN);
     out_of_shape(plan, MULTIPARTITION_DIMENSIONS, 6);
     out_of_shape(plan, MULTIPARTITION_PROCESSORS, 0);
@@ -200,6 +282,10 @@ int main(void)
     out_of_shape(plan, MULTIPARTITION_MODULI, 0);
     out_of_shape(plan, MULTIPARTITION_MODULI + 2, 4);
     out_of_shape(plan, MULTIPARTITION_MATRIX + 2 * MULTIPARTITION_ROW_LENGTH + 2, 2);
+    out_of_shape(plan, MULTIPARTITION_KIND, 2);
+    out_of_shape(plan, MULTIPARTITION_KIND, UINT32_MAX);
+    out_of_shape(diagonal_plan, MULTIPARTITION_KIND, 2);
+    out_of_shape(diagonal_plan, MULTIPARTITION_MODULI + 1, 1);
 
     const struct question no_dimension = {4, 0, 2, 8, 0, 2, 3, 0};
     const struct question high_dimension = {4, 4, 2, 8, 9, 1, 2, 0};
@@ -214,7 +300,7 @@ int main(void)
     questions("no answer list", plan, n, no_answer_list, MULTIPARTITION_BAD_ANSWER_LENGTH, MULTIPARTITION_BAD_ANSWER_LENGTH);
     questions("answer list too long", plan, n, long_answer_list, MULTIPARTITION_BAD_ANSWER_LENGTH, MULTIPARTITION_BAD_ANSWER_LENGTH);
 
-    chain_lists("plan list too short", plan, n - 1, 4, 8, MULTIPARTITION_BAD_PLAN);
+    chain_lists("plan list without a kind", plan, 49, 4, 8, MULTIPARTITION_BAD_PLAN);
     chain_lists("too few heads", plan, n, 3, 8, MULTIPARTITION_BAD_ANSWER_LENGTH);
     chain_lists("too many nexts", plan, n, 4, 9, MULTIPARTITION_BAD_ANSWER_LENGTH);
 

@@ -16,7 +16,7 @@
 
 enum { THREAD = 1 << 16, GUARD = 1 << 20, UNUSED = 0xA5, MOST = 5, N = MULTIPARTITION_PLAN_LENGTH };
 
-static uint32_t plan[N], swept[N];
+static uint32_t plan[N], swept[N], diagonal[N];
 static uint32_t position[MOST];
 static uint32_t answer[MULTIPARTITION_TIMETABLE_LENGTH];
 static uint32_t *heads, *nexts;
@@ -40,6 +40,17 @@ static void plan_all(void)
                 check(multipartition_plan(p, d, extents, d, weights[w], d, plan, N));
 }
 
+/* Every processor count with two dimensions, and every square with three. */
+static void plan_all_diagonally(void)
+{
+    for (size_t w = 0; w < sizeof weights / sizeof *weights; w++) {
+        for (uint32_t p = 1; p <= 4096; p++)
+            check(multipartition_diagonal(p, 2, extents, 2, weights[w], 2, diagonal, N));
+        for (uint32_t s = 1; s <= 64; s++)
+            check(multipartition_diagonal(s * s, 3, extents, 3, weights[w], 3, diagonal, N));
+    }
+}
+
 /* The questions are about the plan of a count with most divisors; for sweeps, with extents that message lengths allow. */
 static void plan_one(void)
 {
@@ -56,6 +67,15 @@ static void plan_one(void)
 static void ask_owner(void)
 {
     check(multipartition_owner(plan, N, position, MOST, answer, MULTIPARTITION_OWNER_LENGTH));
+}
+
+/* Every processor count of the layout, at the last position. */
+static void ask_hypercube_owner(void)
+{
+    for (uint32_t p = 1, side = 1; p <= 4096; p *= 4, side *= 2) {
+        const uint32_t last[3] = {side - 1, side - 1, side - 1};
+        check(multipartition_hypercube_owner(p, last, 3, answer, MULTIPARTITION_HYPERCUBE_OWNER_LENGTH));
+    }
 }
 
 static void ask_neighbour(void)
@@ -159,6 +179,7 @@ int main(void)
     if (!heads || !nexts)
         abort();
     within("owner", MULTIPARTITION_QUESTION_STACK, ask_owner);
+    within("hypercube owner", MULTIPARTITION_QUESTION_STACK, ask_hypercube_owner);
     within("neighbour", MULTIPARTITION_QUESTION_STACK, ask_neighbour);
     within("slab", MULTIPARTITION_QUESTION_STACK, ask_slab);
     within("slab of", MULTIPARTITION_QUESTION_STACK, ask_slab_of);
@@ -167,6 +188,7 @@ int main(void)
     within("step", MULTIPARTITION_QUESTION_STACK, ask_step);
     within("timetable", MULTIPARTITION_TIMETABLE_STACK, ask_timetable);
     within("chains", MULTIPARTITION_CHAINS_STACK, ask_chains);
+    within("diagonal", MULTIPARTITION_QUESTION_STACK, plan_all_diagonally);
     within("plan", MULTIPARTITION_PLAN_STACK, plan_all);
     return EXIT_SUCCESS;
 }

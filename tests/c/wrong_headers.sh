@@ -74,6 +74,11 @@ swap EXTENTS WEIGHTS
 swap WEIGHTS CUTS
 swap CUTS MODULI
 swap COST_LOW COST_HIGH
+swap COST_HIGH KIND
+swap MATRIX KIND
+swap KIND PLAN_LENGTH
+swap KIND_PLANNED KIND_DIAGONAL
+swap HYPERCUBE_OWNER HYPERCUBE_OWNER_LENGTH
 swap NEIGHBOUR_FOUND NEIGHBOUR
 swap SLAB_FIRST SLAB_AFTER
 swap STEP_INSIDE STEP_POSITION
@@ -84,6 +89,10 @@ swap TIMETABLE_SEND_TO TIMETABLE_RECEIVE_FROM
 swap TIMETABLE_SEND_LENGTH TIMETABLE_RECEIVE_LENGTH
 swap TIMETABLE_RECEIVE_FROM TIMETABLE_RECEIVE_LENGTH
 swap BAD_DIMENSIONS BAD_PROCESSORS
+swap BAD_PROCESSORS UNSUITED
+swap UNSUITED BAD_JOB_LENGTH
+swap UNSUITED OTHER_EXTENTS
+swap UNSUITED OUT_OF_RANGE
 swap BAD_JOB_LENGTH BAD_ANSWER_LENGTH
 swap BAD_EXTENT NO_CUTS
 swap BAD_DIMENSION OUT_OF_RANGE
@@ -97,7 +106,9 @@ wrong 'the dimensions of a step without parentheses' 's/STEP_POSITION + (dimensi
 wrong 'a step always has six places' 's/STEP_POSITION + (dimensions)/STEP_POSITION + 0 * (dimensions) + 5/'
 wrong 'answer lengths of 32 bits' 's/size_t answer_length/uint32_t answer_length/'
 wrong 'plan lengths with a sign' 's/size_t plan_length/int plan_length/'
-for call in plan owner neighbour slab slab_of tile_number tile_position step timetable chains; do
+wrong 'processors of the diagonal layout of 64 bits' 's/\(multipartition_diagonal(\)uint32_t/\1uint64_t/'
+wrong 'processors of the hypercube of 64 bits' 's/\(multipartition_hypercube_owner(\)uint32_t/\1uint64_t/'
+for call in plan diagonal owner hypercube_owner neighbour slab slab_of tile_number tile_position step timetable chains; do
     wrong "$call returns 32 bits" "s/^uint64_t \(multipartition_$call(\)/uint32_t \1/"
 done
 
