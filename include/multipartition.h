@@ -14,8 +14,8 @@
  *   it is in shape, and refused with 6 where it is not; of such a list it is not said that its tiles are even, whatever its kind.
  * - The answers of multipartition_timetable fit together, for every plan list in shape: what a processor sends after a step is exactly what its
  *   receiver expects before the next, and the receiver names the sender; except after the last step, the lengths that all processors send after a
- *   step add up to the product of the extents of the other dimensions; no length is cut off to 32 bits. For a list that multipartition_plan wrote,
- *   every processor works on exactly tiles / (cut * p) tiles in every step.
+ *   step add up to the product of the extents of the other dimensions; no length is cut off to 32 bits. For a list that multipartition_plan or
+ *   multipartition_diagonal wrote, every processor works on exactly tiles / (cut * p) tiles in every step.
  * - The owners that multipartition_hypercube_owner gives for two tiles with a common face differ in one bit if the face is along dimension 1 or 2,
  *   and in two bits if it is along dimension 3.
  *

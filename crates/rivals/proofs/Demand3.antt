@@ -3,7 +3,7 @@ use mathlib.Core.Bool.{true}
 use mathlib.Core.List.{List}
 use mathlib.Core.Logic.{inl, inr}
 use mathlib.Core.Option.{Option, none, some, Option·none-ne-some}
-use mathlib.Core.Path.{_≡_, refl, sym, ap, _∙_, subst⁻¹}
+use mathlib.Core.Path.{_≡_, refl, sym, ap, _∙_, subst, subst⁻¹}
 use Prim.Native.Nat.{ℕ, zero, _≤_, _<_}
 use native.Mathlib.Omega.{arith}
 use lib.ListN.{length}
@@ -22,7 +22,7 @@ use Rattle.layout.specs.declared.Plan.{Plan}
 use Rattle.layout.specs.Plans.{layoutOf, planOf}
 use Rattle.layout.proofs.Plans.{layout-of-plan, layout-with-sized}
 use Rattle.planner.specs.Planned.{plannedOf}
-use Rattle.rivals.specs.Demand3.{cutsOf, ownerIn, Ours, Demand3}
+use Rattle.rivals.specs.Demand3.{cutsOf, ownerIn, EvenPlan, Ours, Demand3}
 use Rattle.rivals.proofs.EvenPlans.{ownerBy, owner-by, even-plan}
 
 module _ (job : Job) (plan : Plan) (e : planAnswer job ≡ answered (layoutOf plan)) where
@@ -104,3 +104,10 @@ demand-3 job passed = go (cheapestFor job) refl
           refuses = inl refl;
           ours = λ z. ours job (planOf (layoutWith job cuts)) (answers ∙ ap answered (sym back));
         })
+
+-- so every plan that the planner answers is even
+pub planner-even : (job : Job) (layout : Layout) → planAnswer job ≡ answered layout → EvenPlan job (planOf layout)
+unfolding plannedOf
+planner-even job layout made =
+    let met = subst (λ (a : Answer Layout). Demand3 job (plannedOf a)) made (demand-3 job (plan-answered job layout made .passed)) in
+    met .ours refl .even

@@ -142,3 +142,8 @@ diagonal-plans job = go (diagonalAnswer job) refl
         diagonal job (planOf l) (diagonal-answer-in-shape job (layoutOf (planOf l)) back) (diagonal-for job (layoutOf (planOf l)) back)
     go (refused number place) e z =
         let small = subst (Small (1 + length (job .extents))) e (diagonal-small job) in absurd (omega (arith, small .0, z))
+
+-- so every plan that the diagonal call answers is even
+pub diagonal-even : (job : Job) (layout : Layout) → diagonalAnswer job ≡ answered layout → EvenPlan job (planOf layout)
+unfolding plannedOf
+diagonal-even job layout made = subst (λ (a : Answer Layout). DiagonalPlans job (plannedOf a)) made (diagonal-plans job) refl .even

@@ -27,7 +27,7 @@ use Rattle.layout.specs.Plans.{layoutOf}
 use Rattle.rivals.specs.Demand3.{cutsOf, processorIn, ownerIn, EvenPlan}
 
 -- owners that agree inside the grid hold equally many tiles
-held-ext : (cuts : List ℕ) (own own′ : List ℕ → ℕ) (k s q : ℕ) → ((x : List ℕ) → Inside cuts x → own x ≡ own′ x)
+pub held-ext : (cuts : List ℕ) (own own′ : List ℕ → ℕ) (k s q : ℕ) → ((x : List ℕ) → Inside cuts x → own x ≡ own′ x)
     → held cuts own k s q ≡ held cuts own′ k s q
 held-ext cuts own own′ k s q agree =
     held-total cuts own k s q

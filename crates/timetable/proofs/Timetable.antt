@@ -15,27 +15,22 @@ use lib.ListN.{length, getD, set}
 use Rattle.numbers.specs.Sums.{sum}
 use Rattle.numbers.proofs.Sums.{sum-term-le}
 use Rattle.multipartition.specs.Answers.{answered}
-use Rattle.multipartition.specs.Cuts.{Even}
-use Rattle.multipartition.specs.Jobs.{PlanFor, planAnswer}
 use Rattle.multipartition.specs.Neighbours.{nextOwner}
-use Rattle.multipartition.specs.Owners.{ownerAt, ownerOf}
 use Rattle.multipartition.specs.Plans.{Job, Layout, tilesOf, inShape, InShape}
 use Rattle.multipartition.specs.Questions.{cutOf}
 use Rattle.multipartition.specs.Rivals.{held}
 use Rattle.multipartition.specs.Tiles.{Inside, oneStepOn}
-use Rattle.multipartition.proofs.Chosen.{chosen-even, chosen-length}
 use Rattle.multipartition.proofs.GridSums.{sum-cong}
-use Rattle.multipartition.proofs.Jobs.{plan-answered}
 use Rattle.multipartition.proofs.Neighbours.{neighbour-some, next-owner-below}
-use Rattle.multipartition.proofs.Owners.{owner-below-product, even-owners, share-exact}
+use Rattle.multipartition.proofs.Owners.{owner-below-product}
 use Rattle.multipartition.proofs.Plans.{in-shape-iff, in-shape-moduli-positive, in-shape-neighbour-owns, in-shape-neighbour-returns}
 use Rattle.multipartition.proofs.Tiles.{lt-length, step-up, step-down}
 use Rattle.layout.specs.declared.Plan.{Plan}
-use Rattle.layout.specs.Plans.{layoutOf, planOf}
-use Rattle.layout.specs.Sized.{Sized}
+use Rattle.layout.specs.Plans.{layoutOf}
 use Rattle.layout.proofs.Places.{extents-length, cuts-length}
-use Rattle.layout.proofs.Plans.{layout-of-plan, layout-with-sized}
 use Rattle.layout.proofs.Shaped.{shaped}
+use Rattle.rivals.specs.Demand3.{ownerIn, EvenPlan}
+use Rattle.rivals.proofs.EvenPlans.{held-ext, owner-by}
 use Rattle.timetable.specs.Timetable.{ownerBy, neighbourBy, otherExtents, slabVisited, facesAt, Message, messageWith, lengthOf, sendsAfter, expectsBefore, Visit, visitOf, timetableAnswer, Asked, Sends, Expects, sentIn}
 use Rattle.timetable.proofs.Faces.{Cut, held-faces-move, held-faces-add-up}
 use Rattle.timetable.proofs.Answers.{timetable-answered}
@@ -283,54 +278,33 @@ module _ (plan : Plan) (k : ℕ) (up : Bool) (s q : ℕ) (visit : Visit) (e : ti
         le-trans (length-unless (eqb s 0) (neighbourBy (layoutOf plan) k (not up) q) faces) short,
       )
 
--- ---- the planner's plans
+-- ---- even plans: the planner's and diagonal ones
 
-layout-tiles : (job : Job) (plan : Layout) → planAnswer job ≡ answered plan → (k : ℕ) (up : Bool) (s q : ℕ) (visit : Visit)
-    → timetableAnswer plan k up s q ≡ answered visit
-    → (visit .tiles ≡ tilesOf plan / (cutOf plan k * plan .p)) × (cutOf plan k * plan .p ∣ tilesOf plan)
-unfolding ownerOf
-layout-tiles job plan made k up s q visit e = (
-  tiles-are-held plan k up s q visit e
-      ∙ ap (λ (v : ℕ). held (plan .cuts) (ownerBy plan) (k - 1) v q) (slab-is plan k up s q visit e)
-      ∙ ap (λ (own : List ℕ → ℕ). held (plan .cuts) own (k - 1) (slabVisited (cutOf plan k) up s) q) owner-is
-      ∙ even-owners (job .p) (plan .cuts) (planned .passed .range .p-low) even (k - 1) (slabVisited (cutOf plan k) up s) q in-cuts
-      (slab-visited-below (cutOf plan k) up s (here .step-below)) (subst (λ (n : ℕ). q < n) p-is (here .processor-below))
-      ∙ ap (λ (n : ℕ). tilesOf plan / (cutOf plan k * n)) (sym p-is),
-  subst⁻¹ (λ (n : ℕ). cutOf plan k * n ∣ tilesOf plan) p-is (share-exact (job .p) (plan .cuts) even (k - 1) in-cuts),
+-- "every processor owns exactly tiles / (bk · p) tiles of each slab": so many it works on in every step, and the share is not rounded. Even are the
+-- plans that the planner answers and the diagonal ones (crate `rivals`: planner-even, diagonal-even).
+pub even-tiles : (job : Job) (plan : Plan) → EvenPlan job plan → (k : ℕ) (up : Bool) (s q : ℕ) (visit : Visit)
+    → timetableAnswer (layoutOf plan) k up s q ≡ answered visit
+    → (visit .tiles ≡ tilesOf (layoutOf plan) / (cutOf (layoutOf plan) k * layoutOf plan .p))
+    × (cutOf (layoutOf plan) k * layoutOf plan .p ∣ tilesOf (layoutOf plan))
+even-tiles job plan even k up s q visit e = (
+  tiles-are-held layout k up s q visit e
+      ∙ ap (λ (v : ℕ). held (layout .cuts) (ownerBy layout) (k - 1) v q) (slab-is layout k up s q visit e)
+      ∙ sym (held-ext (layout .cuts) (ownerIn plan) (ownerBy layout) (k - 1) (slabVisited (cutOf layout k) up s) q
+      (λ x w. owner-by job plan (even .holds-job) (even .in-shape) x w))
+      ∙ even .shares (k - 1) (slabVisited (cutOf layout k) up s) q in-cuts
+      (slab-visited-below (cutOf layout k) up s (here .step-below)) (subst (λ (n : ℕ). q < n) p-is (here .processor-below))
+      ∙ ap (λ (n : ℕ). tilesOf layout / (cutOf layout k * n)) (sym p-is),
+  subst⁻¹ (λ (n : ℕ). cutOf layout k * n ∣ tilesOf layout) p-is (even .share-exact (k - 1) in-cuts),
 )
   where
-    planned : PlanFor job plan
-    planned = plan-answered job plan made
+    layout : Layout
+    layout = layoutOf plan
 
-    here : Asked plan k s q
-    here = asked plan k up s q visit e
+    here : Asked layout k s q
+    here = asked layout k up s q visit e
 
-    p-is : plan .p ≡ job .p
-    p-is = ap (λ (l : Layout). l .p) (planned .plan-is)
+    p-is : layout .p ≡ job .p
+    p-is = ap (λ (j : Job). j .p) (even .holds-job)
 
-    even : Even (job .p) (plan .cuts)
-    even = chosen-even job (plan .cuts) (planned .cuts-are)
-
-    in-cuts : k - 1 < length (plan .cuts)
-    in-cuts = within (plan .cuts) (k - 1) s (here .step-below)
-
-    owner-is : ownerBy plan ≡ ownerOf (job .p) (plan .cuts)
-    owner-is = ap (λ (l : Layout). ownerAt (l .moduli) (l .matrix)) (planned .plan-is)
-
--- "every processor owns exactly tiles / (bk · p) tiles of each slab": so many it works on in every step, and the share is not rounded. The planner's
--- plan is by value, as `plan_job` answers it.
-pub planner-tiles : (job : Job) (layout : Layout) → planAnswer job ≡ answered layout → (k : ℕ) (up : Bool) (s q : ℕ) (visit : Visit)
-    → timetableAnswer (layoutOf (planOf layout)) k up s q ≡ answered visit
-    → (visit .tiles ≡ tilesOf layout / (cutOf layout k * layout .p)) × (cutOf layout k * layout .p ∣ tilesOf layout)
-planner-tiles job layout made k up s q visit e =
-    layout-tiles job layout made k up s q visit (subst (λ (l : Layout). timetableAnswer l k up s q ≡ answered visit) (layout-of-plan layout sized) e)
-  where
-    planned : PlanFor job layout
-    planned = plan-answered job layout made
-
-    sized : Sized layout
-    sized =
-        let passed = planned .passed in
-        let many = chosen-length job (layout .cuts) (planned .cuts-are) ∙ passed .extents-many in
-        subst⁻¹ Sized (planned .plan-is)
-        (layout-with-sized job (layout .cuts) (omega (arith, passed .range .d-high, passed .extents-many)) (passed .extents-many) (passed .weights-many) many)
+    in-cuts : k - 1 < length (layout .cuts)
+    in-cuts = within (layout .cuts) (k - 1) s (here .step-below)
