@@ -1,18 +1,17 @@
 -- What the diagonal call answers: a job that is answered has d = 2 or 3 dimensions and s to the power d - 1 processors, s cuts each way fit, and its
 -- plan is in shape.
-use mathlib.Core.Path.{_≡_, refl, sym, ap, _∙_, subst, subst⁻¹}
-use mathlib.Core.Bool.{Bool, true, not}
-use mathlib.Core.List.{List}
+use mathlib.Core.Path.{_≡_, sym, subst, subst⁻¹}
+use mathlib.Core.Bool.{true}
 use Prim.Native.Nat.{ℕ, zero, suc, _+_, _-_, _^_, _≤_, _<_}
 use native.Mathlib.Omega.{arith}
 use borrow.Author.Tests.{not-false}
 use lib.Dec.{leb}
 use lib.ListN.{length, replicate}
-use Rattle.multipartition.specs.Answers.{Answer, answered, refused}
+use Rattle.multipartition.specs.Answers.{answered}
 use Rattle.multipartition.specs.Cuts.{Fits}
 use Rattle.multipartition.specs.Plans.{Job, Layout, between, inShape}
 use Rattle.multipartition.specs.Jobs.{Passed}
-use Rattle.multipartition.proofs.Answers.{AllPass, Small, answers-iff, checked-small}
+use Rattle.multipartition.proofs.Answers.{Small, answers-iff, checked-small}
 use Rattle.multipartition.proofs.Jobs.{job-passes-iff, first-outside-le}
 use Rattle.multipartition.proofs.Plans.{in-shape-iff}
 use Rattle.multipartition.proofs.Tests.{and-true-iff, between-true-iff, leb-iff}

@@ -2,20 +2,19 @@
 use mathlib.Core.Path.{_≡_, refl, sym, ap, ap₂, _∙_, subst, subst⁻¹}
 use mathlib.Core.Logic.{⊎-elim}
 use mathlib.Core.List.{List, [], _∷_, _++_}
-use Prim.Native.Nat.{ℕ, zero, suc, _+_, _-_, _*_, _%_, _^_, _<_, _∣_}
+use Prim.Native.Nat.{ℕ, zero, suc, _+_, _-_, _*_, _%_, _^_, _<_}
 use native.Mathlib.Nat.{zero-mul, mul-zero, mul-one, mod-lt, mod-eq-of-lt, mod-add-mod, add-mod-mod, pow-zero, pow-succ', dvd-refl, div-self, not-suc-le-zero, le-of-suc-le-suc, eq-or-lt-of-le}
 use native.Mathlib.Numerals.{add-one}
 use native.Mathlib.Decide.{ℕ-discrete}
 use native.Mathlib.Omega.{arith}
 use lib.ListN.{length, getD, replicate, replicate-append-replicate, length-replicate, getD-replicate, List·getD-append}
 use lib.Seq.{getD-append-seam}
-use Rattle.numbers.specs.Products.{product, without}
+use Rattle.numbers.specs.Products.{product}
 use Rattle.numbers.specs.Sums.{sum, same}
 use Rattle.numbers.proofs.Congruence.{add-multiple}
 use Rattle.numbers.proofs.Sums.{same-yes, same-no, sum-mul-left}
 use Rattle.numbers.proofs.Residues.{count-residue}
 use Rattle.multipartition.specs.Lists.{first, rest}
-use Rattle.multipartition.specs.Cuts.{Even}
 use Rattle.multipartition.specs.MixedRadix.{numberFrom, digitsOf}
 use Rattle.multipartition.specs.Tiles.{Inside}
 use Rattle.multipartition.specs.Rivals.{held}

@@ -5,13 +5,11 @@ use mathlib.Core.Path.{_≡_, refl, sym, ap, ap₂, _∙_, subst, subst⁻¹}
 use Prim.Native.Nat.{ℕ, suc, _+_, _*_, _/_, _^_, _≤_, _<_, _∣_}
 use native.Mathlib.Nat.{dvd-refl}
 use native.Mathlib.Omega.{arith}
-use lib.IntN.{pos, _-ℤ_}
 use lib.ListN.{length, getD, length-replicate, getD-replicate}
 use Rattle.numbers.specs.Products.{product}
 use Rattle.multipartition.specs.Answers.{Answer, answered, refused}
 use Rattle.multipartition.specs.Cuts.{Fits, costOf}
 use Rattle.multipartition.specs.Jobs.{planAnswer}
-use Rattle.multipartition.specs.Matrix.{remainder}
 use Rattle.multipartition.specs.Owners.{ownerAt}
 use Rattle.multipartition.specs.Plans.{Job, Layout, jobOf, inShape}
 use Rattle.multipartition.specs.Rivals.{Rival, held}
@@ -21,7 +19,7 @@ use Rattle.layout.specs.declared.Plan.{Plan}
 use Rattle.layout.specs.Plans.{layoutOf, planOf}
 use Rattle.layout.proofs.Plans.{layout-of-plan}
 use Rattle.planner.specs.Planned.{plannedOf}
-use Rattle.diagonal.specs.Diagonal.{diagonalCuts, diagonalOwner, diagonalPlan, diagonalAnswer}
+use Rattle.diagonal.specs.Diagonal.{diagonalCuts, diagonalOwner, diagonalAnswer}
 use Rattle.diagonal.proofs.Answers.{DiagonalFor, diagonal-for, diagonal-answer-in-shape, diagonal-answer-sized, diagonal-small}
 use Rattle.diagonal.proofs.Plans.{diagonal-shares, diagonal-owner-2, diagonal-owner-3}
 use Rattle.diagonal.proofs.Shares.{product-replicate}

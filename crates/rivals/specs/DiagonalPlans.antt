@@ -1,6 +1,6 @@
 -- Document 02, request c: "Diagonal plans are shown even and never cheaper than the planner's". The calls promise the definitions diagonalAnswer,
 -- planAnswer and ownerAnswer, which stand here for them.
-use mathlib.Core.List.{List, [], _∷_}
+use mathlib.Core.List.{[], _∷_}
 use mathlib.Core.Path.{_≡_}
 use Prim.Native.Nat.{ℕ, _+_, _*_, _≤_}
 use lib.IntN.{pos, _-ℤ_}

@@ -1,6 +1,6 @@
 -- `side_of` meets its contract.
 use borrow.Author.Needs.{needs}
-use mathlib.Core.Path.{_≡_, sym, ap, _∙_}
+use mathlib.Core.Path.{sym, ap, _∙_}
 use Prim.Native.Nat.{ℕ}
 use native.Mathlib.Omega.{arith}
 use Rattle.diagonal.proofs.Sides.{suitedSide, suits-high, unsuited, suited-2}

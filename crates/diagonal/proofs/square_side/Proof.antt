@@ -1,7 +1,7 @@
 -- `square_side` meets its contract: the squares of all numbers below s are below p, and so s is the square root of p or there is none.
 use borrow.Author.Needs.{needs}
 use mathlib.Core.Path.{_≡_, subst⁻¹}
-use Prim.Native.Nat.{ℕ, _+_, _-_, _*_, _^_, _≤_, _<_}
+use Prim.Native.Nat.{ℕ, _-_, _*_, _^_, _≤_, _<_}
 use native.Mathlib.Nat.{mul-le-mul}
 use native.Mathlib.Omega.{arith}
 use Rattle.diagonal.proofs.Sides.{root-found, root-none, root-next, root-high}

@@ -1,6 +1,6 @@
 -- `with_sides` meets its contract.
 use mathlib.Core.Path.{_≡_, refl, subst⁻¹}
-use mathlib.Core.List.{List, [], _∷_}
+use mathlib.Core.List.{[], _∷_}
 use Prim.Native.Nat.{ℕ, _-_}
 use native.Mathlib.Omega.{arith}
 use lib.ListN.{replicate}
