@@ -40,13 +40,3 @@ first-such-only test from (suc count) r only low high e = go (test from) refl (�
     go true f later = only from f
     go false f later =
         ⊎-elim (λ (q : from ≡ r). absurd (false-not-true (sym f ∙ ap test q ∙ e))) (λ l. later l) (eq-or-lt-of-le low)
-
--- where none passes, the search ends behind them
-pub first-such-none : (test : ℕ → Bool) (from count : ℕ) → ((i : ℕ) → test i ≡ true → ⊥) → firstSuch test from count ≡ from + count
-unfolding firstSuch
-first-such-none test from zero h = omega arith
-first-such-none test from (suc count) h = go (test from) refl (first-such-none test (suc from) count h)
-  where
-    go : (t : Bool) → test from ≡ t → firstSuch test (suc from) count ≡ suc from + count → cond t from (firstSuch test (suc from) count) ≡ from + suc count
-    go true e later = absurd (h from e)
-    go false e later = omega arith
