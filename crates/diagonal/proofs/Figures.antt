@@ -11,7 +11,7 @@ use Rattle.multipartition.specs.MixedRadix.{numberFrom}
 use Rattle.multipartition.specs.Owners.{times, coordinatesAt, ownerAt}
 use Rattle.multipartition.specs.Plans.{Job, Layout, jobWith}
 use Rattle.multipartition.specs.Tiles.{positions}
-use Rattle.diagonal.specs.Diagonal.{diagonalModuli, diagonalRow, diagonalRows, diagonalMatrix, diagonalOwner, sideOf, suits, sideFits, diagonalAnswer}
+use Rattle.diagonal.specs.Diagonal.{diagonalModuli, diagonalRow, diagonalRows, diagonalMatrix, diagonalOwner, isSide, sideOf, suits, sideFits, diagonalAnswer}
 
 -- what a job is told: number and place of its refusal, or cuts, cost, moduli, matrix, kind, and the owners in the order of the tiles
 pub data Told : Type 0 where
@@ -66,7 +66,7 @@ cases =
     ∷ []
 
 pub figures : map computed cases ≡ cases
-unfolding diagonalAnswer suits sideOf sideFits firstSuch firstOutside allBelow cutCost diagonalModuli diagonalRow diagonalRows diagonalMatrix ownerAt coordinatesAt times numberFrom listOf same positions startingWith
+unfolding diagonalAnswer suits isSide sideOf sideFits firstSuch firstOutside allBelow cutCost diagonalModuli diagonalRow diagonalRows diagonalMatrix ownerAt coordinatesAt times numberFrom listOf same positions startingWith
 figures = refl
 
 -- 16 processors: the owners of the plane i3 = 0 and of the plane i3 = 1, row by row, as in the first figure of source document 001

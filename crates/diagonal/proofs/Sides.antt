@@ -1,7 +1,7 @@
 -- The side of a diagonal layout: it is the s with s to the power d - 1 equal to p, and the test of the extents says whether its cuts fit.
 use mathlib.Core.Path.{_≡_, refl, sym, ap, _∙_, subst, subst⁻¹}
 use mathlib.Core.Logic.{_≢_, _↔_, ⊎-elim}
-use mathlib.Core.Bool.{Bool, true, false, cond}
+use mathlib.Core.Bool.{true, false, cond}
 use mathlib.Core.List.{List, [], _∷_}
 use Prim.Native.Nat.{ℕ, zero, suc, _+_, _-_, _*_, _^_, _≤_, _<_}
 use native.Mathlib.Nat.{pow-lt-pow-left, pow-succ', pow-zero, mul-one, zero-mul, one-le-pow, le-mul-of-pos-right, mul-le-mul, eq-or-lt-of-le}
@@ -14,7 +14,7 @@ use Rattle.multipartition.specs.Lists.{firstSuch}
 use Rattle.multipartition.specs.Plans.{between}
 use Rattle.multipartition.proofs.Tests.{and-true-iff, allBelow-true-iff, eqb-iff, leb-iff, between-true-iff, by-cond}
 use Rattle.multipartition.proofs.Searches.{first-such-low, first-such-passes, first-such-only}
-use Rattle.diagonal.specs.Diagonal.{sideOf, suits, sideFits}
+use Rattle.diagonal.specs.Diagonal.{isSide, sideOf, suits, sideFits}
 
 -- ---- powers
 
@@ -46,28 +46,25 @@ pow-positive n (suc s) l = omega arith
 
 pub side-low : (d p : ℕ) → zero < sideOf d p
 unfolding sideOf
-side-low d p = first-such-low (λ s. eqb (s ^ (d - 1)) p) 1 p
+side-low d p = first-such-low (isSide d p) 1 p
 
 module _ (n p : ℕ) where
-  test : ℕ → Bool
-  test s = eqb (s ^ (suc (suc n) - 1)) p
-
-  test-iff : (s : ℕ) → (test s ≡ true) ↔ (s ^ suc n ≡ p)
-  unfolding test
-  test-iff s =
+  side-iff : (s : ℕ) → (isSide (suc (suc n)) p s ≡ true) ↔ (s ^ suc n ≡ p)
+  unfolding isSide
+  side-iff s =
       let less : suc (suc n) - 1 ≡ suc n = omega arith in
       subst⁻¹ (λ (k : ℕ). (eqb (s ^ k) p ≡ true) ↔ (s ^ suc n ≡ p)) less (eqb-iff (s ^ suc n) p)
 
   pub side-power : sideOf (suc (suc n)) p ≤ p → sideOf (suc (suc n)) p ^ suc n ≡ p
-  unfolding sideOf test
-  side-power l = test-iff (firstSuch test 1 p) .0 (first-such-passes test 1 p (omega arith))
+  unfolding sideOf
+  side-power l = side-iff (firstSuch (isSide (suc (suc n)) p) 1 p) .0 (first-such-passes (isSide (suc (suc n)) p) 1 p (omega arith))
 
   pub side-is : (s : ℕ) → zero < p → s ^ suc n ≡ p → sideOf (suc (suc n)) p ≡ s
-  unfolding sideOf test
+  unfolding sideOf
   side-is s l e =
       let low : zero < s = pow-positive n s (subst⁻¹ (λ (m : ℕ). zero < m) e l) in
       let high : s ≤ p = subst (λ (m : ℕ). s ≤ m) e (side-le n s low) in
-      first-such-only test 1 p s (λ i f. pow-injective n i s (test-iff i .0 f ∙ sym e)) low (omega arith) (test-iff s .1 e)
+      first-such-only (isSide (suc (suc n)) p) 1 p s (λ i f. pow-injective n i s (side-iff i .0 f ∙ sym e)) low (omega arith) (side-iff s .1 e)
 
 -- ---- where p and d suit the layout
 

@@ -55,9 +55,13 @@ diagonalPlan job s = record {
   kind = 1;
 }
 
--- The side for p processors: the s with s to the power d - 1 equal to p; p + 1 if there is none.
+-- "p = s·s", and p = s for d = 2: s is the side of the layout for p processors
+unfoldable pub isSide : ℕ → ℕ → ℕ → Bool
+isSide d p s = eqb (s ^ (d - 1)) p
+
+-- the side; p + 1 if there is none
 unfoldable pub sideOf : ℕ → ℕ → ℕ
-sideOf d p = firstSuch (λ s. eqb (s ^ (d - 1)) p) 1 p
+sideOf d p = firstSuch (isSide d p) 1 p
 
 -- the layouts are for d = 2 and for "d = 3 and p = s·s"
 unfoldable pub suits : ℕ → ℕ → Bool
