@@ -1,7 +1,8 @@
 //! The jobs, plans and questions that are timed.
 
-use crate::plan_list::{list_of, PlanList};
+use crate::plan_list::{list_of, PlanList, PLAN_LENGTH};
 pub use link::questions::Job;
+use link::questions::{hypercube, job_for_diagonal, lent};
 use oracle::plan::{plan_job, Plan};
 use oracle::random::Random;
 
@@ -122,6 +123,52 @@ pub fn three_dimensions() -> Vec<Job> {
 /// The job whose printed plan is longest.
 pub fn largest() -> Job {
     roomy(4096, &[1; 5])
+}
+
+/// Jobs for diagonal plans, accepted and refused, each with a list to lend.
+pub fn any_diagonals(seed: u64, count: usize) -> Vec<(Job, Vec<u32>)> {
+    let mut random = Random::new(seed);
+    let job = |_| {
+        let job = job_for_diagonal(&mut random);
+        (job, lent(&mut random, PLAN_LENGTH))
+    };
+    (0..count).map(job).collect()
+}
+
+/// Jobs for 4,096 processors on the grids that diagonal plans just fit, with weights of many kinds.
+pub fn diagonals(seed: u64, count: usize) -> Vec<(&'static str, Vec<Job>)> {
+    let mut random = Random::new(seed);
+    let mut jobs = |extents: &[u32]| {
+        let d = extents.len() as u32;
+        let job = |_| Job {
+            p: 4096,
+            d,
+            extents: extents.to_vec(),
+            weights: weights(&mut random, d),
+        };
+        (0..count).map(job).collect()
+    };
+    vec![
+        ("diagonal, 4096 on 64 64 64", jobs(&[64; 3])),
+        ("diagonal, 4096 on 4096 4096", jobs(&[4096; 2])),
+    ]
+}
+
+/// Questions about the hypercube layout, answered and refused: a count of processors, a position and a list to lend.
+pub fn any_hypercubes(seed: u64, count: usize) -> Vec<(u32, Vec<u32>, Vec<u32>)> {
+    let mut random = Random::new(seed);
+    let question = |_| {
+        let (p, position) = hypercube(&mut random);
+        (p, position, lent(&mut random, 1))
+    };
+    (0..count).map(question).collect()
+}
+
+/// Positions of the hypercube layout of 4,096 processors, which has 64 slabs each way.
+pub fn hypercube_positions(seed: u64, count: usize) -> Vec<[u32; 3]> {
+    let mut random = Random::new(seed);
+    let position = |_| [(); 3].map(|()| random.between(0, 63) as u32);
+    (0..count).map(position).collect()
 }
 
 /// The job as the program reads it.

@@ -5,6 +5,8 @@
 
 pub mod chains;
 pub mod clock;
+pub mod diagonal;
+pub mod hypercube;
 pub mod jobs;
 pub mod linked;
 pub mod plan_list;

@@ -24,6 +24,8 @@ fn plan(p: u32, d: u32, extents: &[u32], weights: &[u32]) -> Planned {
 pub const PROVED: Subject = Subject {
     name: "proved",
     plan,
+    diagonal: calls::diagonal,
+    hypercube_owner: calls::hypercube_owner,
     owner: |plan, position, answer| told(calls::owner(plan, position, answer)),
     neighbour: |plan, processor, dimension, up, answer| {
         told(calls::neighbour(

@@ -10,11 +10,12 @@ use std::hint::black_box;
 use std::path::Path;
 use std::process::{Command, ExitCode, Stdio};
 
+use bench::diagonal;
 use bench::jobs::{self, Job, Question, Visit};
 use bench::linked::PROVED;
-use bench::plan_list::PROCESSORS;
+use bench::plan_list::{COST_LOW, PLAN_LENGTH, PROCESSORS};
 use bench::planning;
-use bench::subject::{PlanCall, Subject, Told, RIVAL};
+use bench::subject::{DiagonalCall, PlanCall, Returned, Subject, Told, RIVAL};
 use bench::timing::{contest, contest_of_commands, least_seconds, print_head, print_line, Contest};
 
 struct Request {
@@ -48,6 +49,8 @@ fn main() -> ExitCode {
     plans(repeats);
     planning_otherwise(repeats);
     longest_jobs();
+    diagonals(repeats);
+    hypercube_owners(repeats);
     questions(repeats);
     timetables(repeats);
     chains(repeats);
@@ -166,6 +169,103 @@ fn longest_jobs() {
             });
         }
     }
+}
+
+/// Lends the same list to each side, all of which must return the same and leave the same in it.
+fn compare<Side>(
+    what: &str,
+    lent: &[u32],
+    sides: &[Side],
+    call: impl Fn(&Side, &mut [u32]) -> Returned,
+) {
+    let mut told = sides.iter().map(|side| {
+        let mut list = lent.to_vec();
+        (call(side, &mut list), list)
+    });
+    let first = told.next();
+    assert!(told.all(|other| Some(other) == first), "{what}");
+}
+
+fn lay(call: DiagonalCall, job: &Job, list: &mut [u32]) -> Returned {
+    black_box(call)(job.p, job.d, &job.extents, &job.weights, list)
+}
+
+/// Diagonal plans on the grids that they just fit, after a comparison of many others and of refusals.
+fn diagonals(repeats: usize) {
+    let calls = [
+        PROVED.diagonal,
+        RIVAL.diagonal,
+        diagonal::diagonal_for_each_d,
+    ];
+    let [ours, theirs, for_each_d] = calls;
+    for (job, lent) in jobs::any_diagonals(3, 20_000) {
+        let what = format!("{job:?}");
+        compare(&what, &lent, &calls, |&call, list| lay(call, &job, list));
+    }
+    for (what, jobs) in jobs::diagonals(4, 1000) {
+        for job in &jobs {
+            let lent = [7; PLAN_LENGTH];
+            compare(what, &lent, &calls, |&call, list| lay(call, job, list));
+        }
+        let all = |call: DiagonalCall| {
+            let mut list = [0; PLAN_LENGTH];
+            let costs = jobs.iter().map(|job| {
+                assert_eq!(lay(call, job, &mut list), 0, "{what}");
+                u64::from(list[COST_LOW])
+            });
+            costs.sum()
+        };
+        for (beside, target, rival) in [
+            ("", Some(1.2), theirs),
+            (", beside code for each d", None, for_each_d),
+        ] {
+            print_line(&contest(
+                &format!("{what}{beside}"),
+                target,
+                jobs.len(),
+                repeats,
+                || all(ours),
+                || all(rival),
+            ));
+        }
+    }
+}
+
+/// Owners in the largest hypercube layout, after a comparison of questions about all of them and of refusals.
+fn hypercube_owners(repeats: usize) {
+    let what = "hypercube owner, 4096";
+    let sides = [PROVED, RIVAL];
+    let ask = |side: &Subject, p: u32, position: &[u32], answer: &mut [u32]| {
+        black_box(side.hypercube_owner)(p, position, answer)
+    };
+    for (p, position, lent) in jobs::any_hypercubes(5, 20_000) {
+        let what = format!("{p} {position:?}");
+        compare(&what, &lent, &sides, |side, answer| {
+            ask(side, p, &position, answer)
+        });
+    }
+    let positions = jobs::hypercube_positions(6, 20_000);
+    for at in &positions {
+        compare(what, &[7], &sides, |side, answer| {
+            ask(side, 4096, at, answer)
+        });
+    }
+    let all = |side: &Subject| {
+        let mut answer = [0];
+        let owners = positions.iter().map(|at| {
+            assert_eq!(ask(side, 4096, at, &mut answer), 0, "{what}");
+            u64::from(answer[0])
+        });
+        owners.sum()
+    };
+    print_line(&contest(
+        what,
+        Some(1.2),
+        positions.len(),
+        repeats,
+        || all(&PROVED),
+        || all(&RIVAL),
+    ));
 }
 
 type Ask = fn(&Subject, &Question) -> u64;

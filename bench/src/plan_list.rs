@@ -1,8 +1,8 @@
 //! What the rivals ask of a plan list: its length, its shape, its dimensions, its tiles. Its places are named in tests/link.
 
 pub use link::plan_list::{
-    list_of, PlanList, COST_HIGH, COST_LOW, CUTS, DIMENSIONS, EXTENTS, MATRIX, MODULI, PLAN_LENGTH,
-    PROCESSORS, ROW_LENGTH, WEIGHTS,
+    list_of, PlanList, COST_HIGH, COST_LOW, CUTS, DIMENSIONS, EXTENTS, KIND, MATRIX, MODULI,
+    PLAN_LENGTH, PROCESSORS, ROW_LENGTH, WEIGHTS,
 };
 
 /// Refusal 6: the list as an array of the right length, in shape.
@@ -26,7 +26,7 @@ pub fn dimension_at(plan: &PlanList, dimension: u32) -> Result<usize, u32> {
 #[inline]
 pub fn in_shape(plan: &PlanList) -> bool {
     let d = plan[DIMENSIONS] as usize;
-    if !(2..=5).contains(&d) || !(1..=4096).contains(&plan[PROCESSORS]) {
+    if !(2..=5).contains(&d) || !(1..=4096).contains(&plan[PROCESSORS]) || plan[KIND] > 1 {
         return false;
     }
     let mut fine = true;
@@ -70,12 +70,13 @@ mod tests {
             let k = random.between(0, 4) as usize;
             let j = random.between(0, 4) as usize;
             let any = *random.pick(&[0, 1, 2, 4, 4096, 4097, 1_000_000, 1_000_001, u32::MAX]);
-            match random.between(0, 5) {
+            match random.between(0, 6) {
                 0 => plan.d = random.between(0, 7) as u32,
                 1 => plan.p = any,
                 2 => plan.extents[k] = any,
                 3 => plan.cuts[k] = any,
                 4 => plan.moduli[k] = any,
+                5 => plan.kind = any,
                 _ => plan.matrix[k][j] = random.between(0, 9) as u32,
             }
         }

@@ -1,7 +1,7 @@
 //! What is measured: the calls of one side, as functions over plain lists.
 
 use crate::plan_list::PlanList;
-use crate::{chains, planning, questions, timetable};
+use crate::{chains, diagonal, hypercube, planning, questions, timetable};
 
 /// A refusal's number, or nothing where the answer list has been written.
 pub type Told = Result<(), u32>;
@@ -9,7 +9,12 @@ pub type Told = Result<(), u32>;
 /// A refusal's number and place, or a plan.
 pub type Planned = Result<PlanList, (u32, u32)>;
 
+/// What the link returns: 0 where the answer list has been written, else a refusal's number with its place in the
+/// upper 32 bits. The shortest calls return it on both sides: to make a [`Told`] of it would add to the time of one.
+pub type Returned = u64;
+
 pub type PlanCall = fn(u32, u32, &[u32], &[u32]) -> Planned;
+pub type DiagonalCall = fn(u32, u32, &[u32], &[u32], &mut [u32]) -> Returned;
 pub type StepCall = fn(&[u32], &[u32], u32, bool, &mut [u32]) -> Told;
 pub type TimetableCall = fn(&[u32], u32, bool, u32, u32, &mut [u32]) -> Told;
 
@@ -18,6 +23,8 @@ pub type TimetableCall = fn(&[u32], u32, bool, u32, u32, &mut [u32]) -> Told;
 pub struct Subject {
     pub name: &'static str,
     pub plan: PlanCall,
+    pub diagonal: DiagonalCall,
+    pub hypercube_owner: fn(u32, &[u32], &mut [u32]) -> Returned,
     pub owner: fn(&[u32], &[u32], &mut [u32]) -> Told,
     pub neighbour: fn(&[u32], u32, u32, bool, &mut [u32]) -> Told,
     pub slab: fn(&[u32], u32, u32, &mut [u32]) -> Told,
@@ -29,11 +36,13 @@ pub struct Subject {
     pub chains: fn(&[u32], &mut [u32], &mut [u32]) -> Told,
 }
 
-/// The rival: the paper's enumeration (Figure 2, one factor inside the other), the questions with the same checks,
-/// the timetable by the same method, and the fastest chains.
+/// The rival: the paper's enumeration (Figure 2, one factor inside the other), the two older layouts by their
+/// formulas, the questions with the same checks, the timetable by the same method, and the fastest chains.
 pub const RIVAL: Subject = Subject {
     name: "rival",
     plan: planning::figure_2_nested,
+    diagonal: diagonal::diagonal,
+    hypercube_owner: hypercube::owner,
     owner: questions::owner,
     neighbour: questions::neighbour,
     slab: questions::slab,
