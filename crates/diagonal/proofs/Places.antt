@@ -1,5 +1,5 @@
 -- The cost of diagonal cuts, one dimension more at a time, and the matrix in its 25 places.
-use mathlib.Core.Path.{_≡_, sym, ap, ap₂, _∙_}
+use mathlib.Core.Path.{_≡_, refl, sym, ap, ap₂, _∙_}
 use mathlib.Core.List.{List, [], _∷_, _++_}
 use Prim.Native.Nat.{ℕ, zero, suc, _+_, _-_, _*_, _%_, _≤_, _<_}
 use native.Mathlib.Nat.{mod-eq-of-lt, zero-mod}
@@ -9,7 +9,7 @@ use lib.ListN.{length, getD, take, replicate}
 use Rattle.numbers.specs.Sums.{same}
 use Rattle.multipartition.specs.Cuts.{cutCost, costOf}
 use Rattle.multipartition.specs.Lists.{listOf}
-use Rattle.layout.specs.Plans.{flat}
+use Rattle.layout.specs.Plans.{five, flat}
 use Rattle.diagonal.specs.Diagonal.{diagonalCuts, diagonalModuli, diagonalRow, diagonalRows, diagonalMatrix}
 
 cost-suc : (s : ℕ) (weights : List ℕ) (k : ℕ) → k < length weights
@@ -65,3 +65,18 @@ pub moduli-from-first : (d s : ℕ) → 1 ≤ d → (1 ∷ replicate (d - 1) s) 
 unfolding diagonalModuli
 moduli-from-first zero s l = absurd (omega arith)
 moduli-from-first (suc n) s l = let less : suc n - 1 ≡ n = omega arith in ap (λ (m : ℕ). 1 ∷ replicate m s) less
+
+-- ---- two and three numbers in five places
+
+pub five-of-2 : (xs : List ℕ) → length xs ≡ 2 → (getD xs 0 0 ∷ getD xs 1 0 ∷ 0 ∷ 0 ∷ 0 ∷ []) ≡ five xs
+five-of-2 [] e = absurd (omega arith)
+five-of-2 (a ∷ []) e = absurd (omega arith)
+five-of-2 (a ∷ b ∷ []) e = refl
+five-of-2 (a ∷ b ∷ c ∷ xs) e = absurd (omega arith)
+
+pub five-of-3 : (xs : List ℕ) → length xs ≡ 3 → (getD xs 0 0 ∷ getD xs 1 0 ∷ getD xs 2 0 ∷ 0 ∷ 0 ∷ []) ≡ five xs
+five-of-3 [] e = absurd (omega arith)
+five-of-3 (a ∷ []) e = absurd (omega arith)
+five-of-3 (a ∷ b ∷ []) e = absurd (omega arith)
+five-of-3 (a ∷ b ∷ c ∷ []) e = refl
+five-of-3 (a ∷ b ∷ c ∷ x ∷ xs) e = absurd (omega arith)

@@ -1,10 +1,10 @@
 -- The side of a diagonal layout: it is the s with s to the power d - 1 equal to p, and the test of the extents says whether its cuts fit.
 use mathlib.Core.Path.{_≡_, refl, sym, ap, _∙_, subst, subst⁻¹}
-use mathlib.Core.Logic.{_≢_, _↔_, ⊎-elim}
+use mathlib.Core.Logic.{_≢_, _↔_}
 use mathlib.Core.Bool.{true, false, cond}
 use mathlib.Core.List.{List, [], _∷_}
-use Prim.Native.Nat.{ℕ, zero, suc, _+_, _-_, _*_, _^_, _≤_, _<_}
-use native.Mathlib.Nat.{pow-lt-pow-left, pow-succ', pow-zero, mul-one, zero-mul, one-le-pow, le-mul-of-pos-right, mul-le-mul, eq-or-lt-of-le}
+use Prim.Native.Nat.{ℕ, zero, suc, _+_, _-_, _*_, _/_, _^_, _≤_, _<_}
+use native.Mathlib.Nat.{pow-lt-pow-left, pow-succ', pow-zero, mul-one, zero-mul, one-le-pow, le-mul-of-pos-right, mul-le-mul}
 use native.Mathlib.Decide.{decLt}
 use native.Mathlib.Omega.{arith}
 use lib.Dec.{leb, eqb}
@@ -105,39 +105,30 @@ pub suited-within : (d p : ℕ) → suitedSide d p ≤ p → (suits d p ≡ true
 suited-within d p =
     by-cond (λ (m : ℕ). m ≤ p → (suits d p ≡ true) × (m ≡ sideOf d p)) (suits d p) (sideOf d p) (p + 1) (λ e l. (e, refl)) (λ e l. absurd (omega arith))
 
--- ---- the square root: s is the first number whose square is not below p
+-- ---- the square root: between `low`, whose square is at most p, and `high`, whose square is above it, there is no other number
 
--- it is at most 64
-pub root-high : (p s : ℕ) → p ≤ 4096 → s * s < p → s < 64
-root-high p s high l = go (decLt s 64)
-  where
-    go : Dec (s < 64) → s < 64
-    go (yes m) = m
-    go (no n) =
-        let m : 64 ≤ s = omega arith in
-        let large : 64 * 64 ≤ s * s = mul-le-mul m m in absurd (omega arith)
-
-pub root-next : (p s : ℕ) → ((i : ℕ) → i < s → i * i < p) → s * s < p → (i : ℕ) → i < s + 1 → i * i < p
-root-next p s below l i m = ⊎-elim (λ (e : i ≡ s). subst⁻¹ (λ (j : ℕ). j * j < p) e l) (below i) (eq-or-lt-of-le at-most)
-  where
-    at-most : i ≤ s
-    at-most = omega arith
+pub halfway : (low high : ℕ) → low + 1 < high → (low < (low + high) / 2) × ((low + high) / 2 < high)
+halfway low high l = (omega arith, omega arith)
 
 pub root-found : (p s : ℕ) → 1 ≤ p → s * s ≡ p → s ≡ suitedSide 3 p
 root-found p s l e = sym (suited-is 1 p s (omega arith) l (square s ∙ e))
 
-pub root-none : (p s : ℕ) → ((i : ℕ) → i < s → i * i < p) → p < s * s → p + 1 ≡ suitedSide 3 p
-root-none p s below l = sym (unsuited 3 p (λ suit. not-root (sideOf 3 p) (sym (square (sideOf 3 p)) ∙ side-power 1 p (suits-side 3 p suit))))
+pub root-none : (p low high : ℕ) → high ≤ low + 1 → low * low < p → p < high * high → p + 1 ≡ suitedSide 3 p
+root-none p low high near below above =
+    sym (unsuited 3 p (λ suit. not-root (sideOf 3 p) (sym (square (sideOf 3 p)) ∙ side-power 1 p (suits-side 3 p suit))))
   where
     not-root : (i : ℕ) → i * i ≢ p
-    not-root i e = go (decLt i s)
+    not-root i e = go (decLt low i)
       where
-        go : Dec (i < s) → ⊥
-        go (yes m) = let small = below i m in omega (arith, small, e)
-        go (no n) =
-            let m : s ≤ i = omega arith in
-            let large : s * s ≤ i * i = mul-le-mul m m in
+        go : Dec (low < i) → ⊥
+        go (yes l) =
+            let m : high ≤ i = omega arith in
+            let large : high * high ≤ i * i = mul-le-mul m m in
             omega (arith, large, e)
+        go (no n) =
+            let m : i ≤ low = omega arith in
+            let small : i * i ≤ low * low = mul-le-mul m m in
+            omega (arith, small, e)
 
 -- ---- the cuts fit
 

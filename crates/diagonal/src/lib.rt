@@ -2,7 +2,6 @@
 use layout::Plan;
 use planner::Planned;
 use planner::first_outside;
-use planner::padded;
 use planner::refused;
 ghost use mathlib.Core.Bool.{cond};
 ghost use mathlib.Core.Path.{_≡_};
@@ -15,17 +14,23 @@ ghost use Rattle.layout.specs.Plans.{five, flat, planOf};
 ghost use Rattle.planner.specs.Planned.{plannedOf};
 ghost use Rattle.diagonal.specs.Diagonal.{diagonalCuts, diagonalMatrix, diagonalPlan, sideOf, suits, sideFits, diagonalAnswer};
 
-// The s with s * s = p; p + 1 if there is none.
+// The s with s * s = p; p + 1 if there is none. The square of `low` is at most p, and that of `high` above it.
 fn square_side(p: u32) -> u32
     requires { ⌜ (1 ≤ p) × (p ≤ 4096) ⌝ }
     ensures { λ r. ⌜ r ≡ cond (suits 3 p) (sideOf 3 p) (p + 1) ⌝ }
 {
-    let mut s: u32 = 1;
-    while s * s < p {
-        s = s + 1;
+    let mut low: u32 = 1;
+    let mut high: u32 = 65;
+    while low + 1 < high {
+        let middle = (low + high) / 2;
+        if middle * middle <= p {
+            low = middle;
+        } else {
+            high = middle;
+        }
     }
-    if s * s == p {
-        return s;
+    if low * low == p {
+        return low;
     }
     p + 1
 }
@@ -73,6 +78,17 @@ fn cost_of(s: u32, weights: &[u32]) -> u64
         cost = cost + cut_cost(s, weights[k]);
     }
     cost
+}
+
+// Two or three numbers, with zeros after them. They are named one by one: numbers that were copied as one part are slow to read soon after.
+fn padded(numbers: &[u32]) -> [u32; 5]
+    requires { ⌜ (2 ≤ length (now numbers)) × (length (now numbers) ≤ 3) ⌝ }
+    ensures { λ r. ⌜ r ≡ five (now (numbers .entry)) ⌝ }
+{
+    if numbers.len() == 2 {
+        return [numbers[0], numbers[1], 0, 0, 0];
+    }
+    [numbers[0], numbers[1], numbers[2], 0, 0]
 }
 
 // The number `first` and d - 1 times s, with zeros after them: the cuts and the moduli.

@@ -34,7 +34,7 @@ pub fn refused(number: u32, place: u32) -> Planned
 }
 
 // At most five numbers, with zeros after them.
-pub fn padded(numbers: &[u32]) -> [u32; 5]
+fn padded(numbers: &[u32]) -> [u32; 5]
     requires { ⌜ length (now numbers) ≤ 5 ⌝ }
     ensures { λ r. ⌜ r ≡ five (now (numbers .entry)) ⌝ }
 {
