@@ -3,7 +3,7 @@ use mathlib.Core.Path.{_≡_, refl, sym, ap, _∙_, subst, subst⁻¹}
 use mathlib.Core.Logic.{_≢_, _↔_}
 use mathlib.Core.Bool.{true, false, cond}
 use mathlib.Core.List.{List, [], _∷_}
-use Prim.Native.Nat.{ℕ, zero, suc, _+_, _-_, _*_, _/_, _^_, _≤_, _<_}
+use Prim.Native.Nat.{ℕ, zero, suc, _+_, _-_, _*_, _^_, _≤_, _<_}
 use native.Mathlib.Nat.{pow-lt-pow-left, pow-succ', pow-zero, mul-one, zero-mul, one-le-pow, le-mul-of-pos-right, mul-le-mul}
 use native.Mathlib.Decide.{decLt}
 use native.Mathlib.Omega.{arith}
@@ -105,29 +105,38 @@ pub suited-within : (d p : ℕ) → suitedSide d p ≤ p → (suits d p ≡ true
 suited-within d p =
     by-cond (λ (m : ℕ). m ≤ p → (suits d p ≡ true) × (m ≡ sideOf d p)) (suits d p) (sideOf d p) (p + 1) (λ e l. (e, refl)) (λ e l. absurd (omega arith))
 
--- ---- the square root: between `low`, whose square is at most p, and `high`, whose square is above it, there is no other number
+-- ---- the square root
 
-pub halfway : (low high : ℕ) → low + 1 < high → (low < (low + high) / 2) × ((low + high) / 2 < high)
-halfway low high l = (omega arith, omega arith)
+-- of at most 4,096 it is at most 64
+pub root-high : (p s : ℕ) → p ≤ 4096 → s * s ≤ p → s ≤ 64
+root-high p s high l = go (decLt 64 s)
+  where
+    go : Dec (64 < s) → s ≤ 64
+    go (yes m) = let large : 65 * 65 ≤ s * s = mul-le-mul m m in absurd (omega arith)
+    go (no n) = omega arith
+
+pub square-fits : (s : ℕ) → s ≤ 72 → s * s < 2 ^ 32
+square-fits s h = let high : s * s ≤ 72 * 72 = mul-le-mul h h in omega arith
 
 pub root-found : (p s : ℕ) → 1 ≤ p → s * s ≡ p → s ≡ suitedSide 3 p
 root-found p s l e = sym (suited-is 1 p s (omega arith) l (square s ∙ e))
 
-pub root-none : (p low high : ℕ) → high ≤ low + 1 → low * low < p → p < high * high → p + 1 ≡ suitedSide 3 p
-root-none p low high near below above =
+-- s is the last number whose square is at most p
+pub root-none : (p s : ℕ) → s * s < p → p < (s + 1) * (s + 1) → p + 1 ≡ suitedSide 3 p
+root-none p s below above =
     sym (unsuited 3 p (λ suit. not-root (sideOf 3 p) (sym (square (sideOf 3 p)) ∙ side-power 1 p (suits-side 3 p suit))))
   where
     not-root : (i : ℕ) → i * i ≢ p
-    not-root i e = go (decLt low i)
+    not-root i e = go (decLt s i)
       where
-        go : Dec (low < i) → ⊥
+        go : Dec (s < i) → ⊥
         go (yes l) =
-            let m : high ≤ i = omega arith in
-            let large : high * high ≤ i * i = mul-le-mul m m in
+            let m : s + 1 ≤ i = omega arith in
+            let large : (s + 1) * (s + 1) ≤ i * i = mul-le-mul m m in
             omega (arith, large, e)
         go (no n) =
-            let m : i ≤ low = omega arith in
-            let small : i * i ≤ low * low = mul-le-mul m m in
+            let m : i ≤ s = omega arith in
+            let small : i * i ≤ s * s = mul-le-mul m m in
             omega (arith, small, e)
 
 -- ---- the cuts fit

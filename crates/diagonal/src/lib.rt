@@ -6,7 +6,7 @@ use planner::refused;
 ghost use mathlib.Core.Bool.{cond};
 ghost use mathlib.Core.Path.{_≡_};
 ghost use mathlib.Core.List.{_++_, _∷_};
-ghost use Prim.Native.Nat.{_+_, _-_, _^_, _≤_};
+ghost use Prim.Native.Nat.{_+_, _-_, _*_, _^_, _≤_};
 ghost use lib.ListN.{length, replicate, take};
 ghost use Rattle.multipartition.specs.Cuts.{cutCost, costOf};
 ghost use Rattle.multipartition.specs.Plans.{jobWith};
@@ -14,23 +14,29 @@ ghost use Rattle.layout.specs.Plans.{five, flat, planOf};
 ghost use Rattle.planner.specs.Planned.{plannedOf};
 ghost use Rattle.diagonal.specs.Diagonal.{diagonalCuts, diagonalMatrix, diagonalPlan, sideOf, suits, sideFits, diagonalAnswer};
 
-// The s with s * s = p; p + 1 if there is none. The square of `low` is at most p, and that of `high` above it.
+// A number whose square is at most p, in steps of eight.
+fn root_by_eights(p: u32) -> u32
+    requires { ⌜ p ≤ 4096 ⌝ }
+    ensures { λ r. ⌜ (r ≤ 64) × (r * r ≤ p) ⌝ }
+{
+    let mut s: u32 = 0;
+    while (s + 8) * (s + 8) <= p {
+        s = s + 8;
+    }
+    s
+}
+
+// The s with s * s = p; p + 1 if there is none.
 fn square_side(p: u32) -> u32
     requires { ⌜ (1 ≤ p) × (p ≤ 4096) ⌝ }
     ensures { λ r. ⌜ r ≡ cond (suits 3 p) (sideOf 3 p) (p + 1) ⌝ }
 {
-    let mut low: u32 = 1;
-    let mut high: u32 = 65;
-    while low + 1 < high {
-        let middle = (low + high) / 2;
-        if middle * middle <= p {
-            low = middle;
-        } else {
-            high = middle;
-        }
+    let mut s = root_by_eights(p);
+    while (s + 1) * (s + 1) <= p {
+        s = s + 1;
     }
-    if low * low == p {
-        return low;
+    if s * s == p {
+        return s;
     }
     p + 1
 }
