@@ -15,9 +15,8 @@ use tiles::slabs::SlabNumber;
 use timetable::Visited;
 ghost use Prim.Native.Nat.{_≤_};
 ghost use lib.ListN.{length};
-ghost use Rattle.questions.specs.Told.{toldOwner};
 ghost use Rattle.link_lists.specs.Lists.{Linked};
-ghost use Rattle.solver_link.specs.Link.{plannedListed, ownerListed, planLink, diagonalLink, hypercubeOwnerLink, ownerLink, neighbourLink, slabLink, slabOfLink, tileNumberLink, tilePositionLink, stepLink, timetableLink, chainsLink};
+ghost use Rattle.solver_link.specs.Link.{plannedListed, planLink, diagonalLink, hypercubeOwnerLink, ownerLink, neighbourLink, slabLink, slabOfLink, tileNumberLink, tilePositionLink, stepLink, timetableLink, chainsLink};
 
 // What a planning call answered: the answer list gets the plan list.
 fn put_planned(planned: Planned, list: &mut [u32]) -> u64
@@ -29,16 +28,6 @@ fn put_planned(planned: Planned, list: &mut [u32]) -> u64
     }
     let found = planned.plan;
     link_lists::put_plan(list, found)
-}
-
-// What an owner question answered: the answer list gets the processor.
-fn put_owner(owner: Owner, answer: &mut [u32]) -> u64
-    ensures { λ r. ⌜ Linked (ownerListed (length (now (answer .entry))) (toldOwner owner)) (now (answer .entry)) r (now (answer .exit)) ⌝ }
-{
-    match owner {
-        Owner::Processor(q) => link_lists::put_one(answer, q),
-        Owner::Refused { number, place } => link_lists::joined(number, place),
-    }
 }
 
 // Plans a job: the answer list gets the plan list.
@@ -80,7 +69,11 @@ pub extern "C" fn multipartition_hypercube_owner(
 ) -> u64
     ensures { λ r. ⌜ Linked (hypercubeOwnerLink processors (now (position .entry)) (length (now (answer .entry)))) (now (answer .entry)) r (now (answer .exit)) ⌝ }
 {
-    put_owner(hypercube::hypercube_owner(processors, position), answer)
+    let owner = hypercube::hypercube_owner(processors, position);
+    match owner {
+        Owner::Processor(q) => link_lists::put_one(answer, q),
+        Owner::Refused { number, place } => { link_lists::joined(number, place) }
+    }
 }
 
 // Who owns a position: the answer list gets the processor.
@@ -95,7 +88,11 @@ pub extern "C" fn multipartition_owner<'a>(
     if plan.len() != link_lists::PLAN_LENGTH {
         return 6;
     }
-    put_owner(link_lists::owner_in(plan, position), answer)
+    let owner = link_lists::owner_in(plan, position);
+    match owner {
+        Owner::Processor(q) => link_lists::put_one(answer, q),
+        Owner::Refused { number, place } => link_lists::joined(number, place),
+    }
 }
 
 // Who is the neighbour of a processor along a dimension, up unless `up` is 0: the answer list gets 1 and the processor, or 0 and 0 for nobody.
