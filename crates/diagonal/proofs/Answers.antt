@@ -1,7 +1,8 @@
 -- What the diagonal call answers: a job that is answered has d = 2 or 3 dimensions and s to the power d - 1 processors, s cuts each way fit, and its
 -- plan is in shape.
-use mathlib.Core.Path.{_≡_, sym, subst, subst⁻¹}
-use mathlib.Core.Bool.{true}
+use mathlib.Core.Path.{_≡_, sym, ap, _∙_, subst, subst⁻¹}
+use mathlib.Core.Bool.{true, not}
+use mathlib.Core.Logic.{_↔_}
 use Prim.Native.Nat.{ℕ, zero, suc, _+_, _-_, _^_, _≤_, _<_}
 use native.Mathlib.Omega.{arith}
 use borrow.Author.Tests.{not-false}
@@ -17,7 +18,7 @@ use Rattle.multipartition.proofs.Plans.{in-shape-iff}
 use Rattle.multipartition.proofs.Tests.{and-true-iff, between-true-iff, leb-iff}
 use Rattle.layout.specs.Sized.{Sized}
 use Rattle.diagonal.specs.Diagonal.{diagonalCuts, diagonalPlan, sideOf, suits, sideFits, diagonalChecks, diagonalAnswer}
-use Rattle.diagonal.proofs.Sides.{side-low, side-power, fits-of-side}
+use Rattle.diagonal.proofs.Sides.{side-low, side-le, side-power, side-is, fits-of-side, side-of-fits}
 use Rattle.diagonal.proofs.Plans.{diagonal-in-shape, diagonal-sized}
 
 -- what the answer `plan` to a job says, for d = n + 2
@@ -32,10 +33,10 @@ pub record DiagonalFor (job : Job) (plan : Layout) : Type 0 where
   pub fits : Fits (job .extents) (diagonalCuts (job .d) s)
   pub plan-is : plan ≡ diagonalPlan job s
 
-module _ (job : Job) (plan : Layout) (e : diagonalAnswer job ≡ answered plan) where
-  pub diagonal-for : DiagonalFor job plan
+module _ (job : Job) (plan : Layout) where
+  diagonal-told : diagonalAnswer job ≡ answered plan → DiagonalFor job plan
   unfolding diagonalAnswer suits
-  diagonal-for =
+  diagonal-told e =
       let asked = answers-iff (diagonalChecks job) (diagonalPlan job s) plan .0 e in
       let pass = asked .0 in
       let passed = job-passes-iff job .0 (pass .0, (pass .1 .0, (pass .1 .1 .1 .0, (pass .1 .1 .1 .1 .0, tt)))) in
@@ -63,10 +64,36 @@ module _ (job : Job) (plan : Layout) (e : diagonalAnswer job ≡ answered plan) 
       s : ℕ
       s = sideOf (job .d) (job .p)
 
+  diagonal-of : DiagonalFor job plan → diagonalAnswer job ≡ answered plan
+  unfolding diagonalAnswer suits
+  diagonal-of made =
+      let pass = job-passes-iff job .1 (made .passed) in
+      let found : sideOf (job .d) (job .p) ≡ made .s =
+      subst⁻¹ (λ (d : ℕ). sideOf d (job .p) ≡ made .s) (made .dimensions) (side-is (made .n) (job .p) (made .s) (made .passed .range .p-low) (made .processors)) in
+      let high : made .s ≤ job .p = subst (λ (m : ℕ). made .s ≤ m) (made .processors) (side-le (made .n) (made .s) (made .positive)) in
+      let suit : suits (job .d) (job .p) ≡ true =
+      and-true-iff (between 2 3 (job .d)) (leb (sideOf (job .d) (job .p)) (job .p)) .1 (
+        between-true-iff 2 3 (job .d) .1 (omega (arith, made .dimensions), omega (arith, made .dimensions, made .few)),
+        leb-iff (sideOf (job .d) (job .p)) (job .p) .1 (subst⁻¹ (λ (m : ℕ). m ≤ job .p) found high),
+      ) in
+      let many : Fits (job .extents) (replicate (length (job .extents)) (made .s)) =
+      subst⁻¹ (λ (m : ℕ). Fits (job .extents) (replicate m (made .s))) (made .passed .extents-many) (made .fits) in
+      let fit : sideFits (sideOf (job .d) (job .p)) (job .extents) ≡ true =
+      subst⁻¹ (λ (m : ℕ). sideFits m (job .extents) ≡ true) found (side-of-fits (made .s) (job .extents) many) in
+      answers-iff (diagonalChecks job) (diagonalPlan job (sideOf (job .d) (job .p))) plan .1 (
+        (pass .0, (pass .1 .0, (ap not suit, (pass .1 .1 .0, (pass .1 .1 .1 .0, (ap not fit, tt)))))),
+        ap (diagonalPlan job) found ∙ sym (made .plan-is),
+      )
+
+  -- what it takes for a job to be answered, and with which plan
+  pub diagonal-answered : (diagonalAnswer job ≡ answered plan) ↔ DiagonalFor job plan
+  diagonal-answered = (diagonal-told, diagonal-of)
+
+module _ (job : Job) (plan : Layout) (e : diagonalAnswer job ≡ answered plan) where
   -- a diagonal plan is in shape
   pub diagonal-answer-in-shape : inShape plan ≡ true
   diagonal-answer-in-shape =
-      let made = diagonal-for in
+      let made = diagonal-answered job plan .0 e in
       subst⁻¹ (λ (l : Layout). inShape l ≡ true) (made .plan-is)
       (in-shape-iff (diagonalPlan job (made .s)) .1
       (diagonal-in-shape job (made .n) (made .s) (made .dimensions) (made .processors) (made .passed) (made .fits)))
@@ -74,7 +101,7 @@ module _ (job : Job) (plan : Layout) (e : diagonalAnswer job ≡ answered plan) 
   -- and a plan by value can hold it
   pub diagonal-answer-sized : Sized plan
   diagonal-answer-sized =
-      let made = diagonal-for in
+      let made = diagonal-answered job plan .0 e in
       subst⁻¹ Sized (made .plan-is) (diagonal-sized job (made .n) (made .s) (made .dimensions) (made .processors) (made .passed) (made .fits))
 
 -- a refusal has a number from 1 on, and one of two digits

@@ -35,7 +35,27 @@ entry-last s l =
     let below : s - 1 < s = omega arith in
     ap (λ (n : ℕ). n % s) (omega arith) ∙ mod-eq-of-lt below
 
--- ---- the matrix, its rows five places apart
+entry-reduced : (s : ℕ) → (0 + (s - 1) * 1) % s ≡ (s - 1) % s
+entry-reduced s = ap (λ (n : ℕ). n % s) (omega arith)
+
+-- ---- the matrix
+
+-- "Row 1 is zero; row 2 is 1 p−1 for d = 2", reduced
+pub matrix-of-2 : (s : ℕ) → diagonalMatrix 2 s ≡ (0 ∷ 0 ∷ []) ∷ (1 % s ∷ (s - 1) % s ∷ []) ∷ []
+unfolding diagonalMatrix diagonalRows diagonalRow listOf same
+matrix-of-2 s = ap₂ (λ (one last : ℕ). (0 ∷ 0 ∷ []) ∷ (one ∷ last ∷ []) ∷ []) (entry-one s) (entry-reduced s)
+
+-- "for d = 3, row 2 is 1 0 s−1 and row 3 is 0 1 s−1", reduced
+pub matrix-of-3 : (s : ℕ) → diagonalMatrix 3 s ≡ (0 ∷ 0 ∷ 0 ∷ []) ∷ (1 % s ∷ 0 ∷ (s - 1) % s ∷ []) ∷ (0 ∷ 1 % s ∷ (s - 1) % s ∷ []) ∷ []
+unfolding diagonalMatrix diagonalRows diagonalRow listOf same
+matrix-of-3 s =
+    ap₂ (λ (one last : ℕ). rows ((0 + (s - 1) * 0) % s) one last) (entry-one s) (entry-reduced s)
+    ∙ ap (λ (none : ℕ). rows none (1 % s) ((s - 1) % s)) (entry-none s)
+  where
+    rows : ℕ → ℕ → ℕ → List (List ℕ)
+    rows none one last = (0 ∷ 0 ∷ 0 ∷ []) ∷ (one ∷ none ∷ last ∷ []) ∷ (none ∷ one ∷ last ∷ []) ∷ []
+
+-- the same in 25 places, the rows five apart
 
 abbrev pub rows2 : ℕ → ℕ → List ℕ
 rows2 one last = 0 ∷ 0 ∷ 0 ∷ 0 ∷ 0 ∷ one ∷ last ∷ 0 ∷ 0 ∷ 0 ∷ replicate 15 0
@@ -80,3 +100,11 @@ five-of-3 (a ∷ []) e = absurd (omega arith)
 five-of-3 (a ∷ b ∷ []) e = absurd (omega arith)
 five-of-3 (a ∷ b ∷ c ∷ []) e = refl
 five-of-3 (a ∷ b ∷ c ∷ x ∷ xs) e = absurd (omega arith)
+
+pub moduli-of-2 : (s : ℕ) → diagonalModuli 2 s ≡ 1 ∷ s ∷ []
+unfolding diagonalModuli
+moduli-of-2 s = refl
+
+pub moduli-of-3 : (s : ℕ) → diagonalModuli 3 s ≡ 1 ∷ s ∷ s ∷ []
+unfolding diagonalModuli
+moduli-of-3 s = refl

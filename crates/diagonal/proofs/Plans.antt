@@ -1,6 +1,6 @@
 -- Diagonal layouts of n + 1 dimensions: shares, owners by the formulas of document 02, and a plan in shape.
 use mathlib.Core.Path.{_≡_, refl, sym, ap, ap₂, _∙_, subst, subst⁻¹}
-use mathlib.Core.List.{List, [], _∷_}
+use mathlib.Core.List.{[], _∷_}
 use Prim.Native.Nat.{ℕ, zero, suc, _+_, _-_, _*_, _/_, _%_, _^_, _≤_, _<_}
 use native.Mathlib.Nat.{mul-pos, one-mul, mod-lt, div-self, mul-le-mul, le-of-suc-le-suc, le-trans, le-refl}
 use native.Mathlib.Omega.{arith}
@@ -9,18 +9,17 @@ use lib.ListN.{length, getD, replicate, length-replicate, getD-replicate}
 use Rattle.numbers.specs.Products.{product}
 use Rattle.numbers.specs.Sums.{same}
 use Rattle.numbers.proofs.Congruence.{add-multiple}
-use Rattle.multipartition.specs.Lists.{listOf}
 use Rattle.multipartition.specs.Cuts.{Fits}
 use Rattle.multipartition.specs.Matrix.{remainder}
 use Rattle.multipartition.specs.MixedRadix.{numberFrom}
-use Rattle.multipartition.specs.Owners.{ownerAt}
 use Rattle.multipartition.specs.Rivals.{held}
 use Rattle.multipartition.specs.Plans.{Job, entryAt, InShape}
 use Rattle.multipartition.specs.Jobs.{Passed}
 use Rattle.multipartition.proofs.MixedRadix.{Positive, product-positive}
 use Rattle.multipartition.proofs.WholeNumbers.{remainder-difference}
+use Rattle.multipartition.proofs.Chains.{length-listOf}
+use Rattle.multipartition.proofs.Matrix.{listOf-below}
 use Rattle.multipartition.proofs.Fitting.{fits-positive, fits-le-extent}
-use Rattle.multipartition.proofs.Owners.{owner-below-product}
 use Rattle.layout.specs.Sized.{Sized}
 use Rattle.diagonal.specs.Diagonal.{diagonalCuts, diagonalModuli, diagonalRow, diagonalRows, diagonalMatrix, diagonalOwner, diagonalPlan}
 use Rattle.diagonal.proofs.Owners.{shifted, diagonal-owner}
@@ -33,16 +32,6 @@ module _ (n s : ℕ) where
   moduli-product : product (diagonalModuli (suc n) s) ≡ s ^ n
   unfolding diagonalModuli
   moduli-product = one-mul (product (replicate n s)) ∙ product-replicate n s
-
-  -- every owner is a processor
-  pub diagonal-owner-below : (position : List ℕ) → zero < s → diagonalOwner (suc n) s position < s ^ n
-  unfolding diagonalOwner diagonalModuli Positive
-  diagonal-owner-below position l =
-      subst (λ (m : ℕ). ownerAt (diagonalModuli (suc n) s) (diagonalMatrix (suc n) s) position < m) moduli-product
-      (owner-below-product (diagonalModuli (suc n) s) (diagonalMatrix (suc n) s) position positive)
-    where
-      positive : Positive (diagonalModuli (suc n) s)
-      positive = (omega arith, positive-replicate n s l)
 
   -- tiles / (bk · p) is 1
   one-tile : (k : ℕ) → zero < s → k < suc n → product (diagonalCuts (suc n) s) / (getD (diagonalCuts (suc n) s) k 0 * s ^ n) ≡ 1
@@ -83,21 +72,10 @@ diagonal-owner-3 s i1 i2 i3 l =
 
 -- ---- the matrix
 
-length-listOf : (a n : ℕ) (f : ℕ → ℕ) → length (listOf a n f) ≡ n
-unfolding listOf
-length-listOf a zero f = refl
-length-listOf a (suc n) f = ap suc (length-listOf (suc a) n f)
-
-listOf-below : (a n s : ℕ) (f : ℕ → ℕ) → zero < s → ((k : ℕ) → f k < s) → (j : ℕ) → getD (listOf a n f) j 0 < s
-unfolding listOf
-listOf-below a zero s f l h j = l
-listOf-below a (suc n) s f l h zero = h a
-listOf-below a (suc n) s f l h (suc j) = listOf-below (suc a) n s f l h j
-
 rows-below : (d s a n i j : ℕ) → zero < s → entryAt (diagonalRows d s a n) i j < s
 unfolding diagonalRows diagonalRow
 rows-below d s a zero i j l = l
-rows-below d s a (suc n) zero j l = listOf-below 1 d s (λ k. (same k a + (s - 1) * same k d) % s) l (λ k. mod-lt (same k a + (s - 1) * same k d) l) j
+rows-below d s a (suc n) zero j l = listOf-below 1 d (λ k. (same k a + (s - 1) * same k d) % s) s l (λ k. mod-lt (same k a + (s - 1) * same k d) l) j
 rows-below d s a (suc n) (suc i) j l = rows-below d s (suc a) n i j l
 
 length-rows : (d s a n : ℕ) → length (diagonalRows d s a n) ≡ n
@@ -111,21 +89,16 @@ length-row d s a zero i l = absurd (omega arith)
 length-row d s a (suc n) zero l = length-listOf 1 d (λ k. (same k a + (s - 1) * same k d) % s)
 length-row d s a (suc n) (suc i) l = length-row d s (suc a) n i (omega arith)
 
-zero-entry : (n j : ℕ) → _≡_ {A = ℕ} (getD (replicate n 0) j 0) 0
-zero-entry zero j = refl
-zero-entry (suc n) zero = refl
-zero-entry (suc n) (suc j) = zero-entry n j
-
 modulus-low : (n s i : ℕ) → zero < s → i < suc n → 1 ≤ getD (diagonalModuli (suc n) s) i 0
 unfolding diagonalModuli
 modulus-low n s zero l h = le-refl 1
 modulus-low n s (suc i) l h = subst⁻¹ (λ (m : ℕ). 1 ≤ m) (getD-replicate n i s 0 (le-of-suc-le-suc h)) l
 
-entry-below : (n s i j : ℕ) → zero < s → i < suc n → entryAt (diagonalMatrix (suc n) s) i j < getD (diagonalModuli (suc n) s) i 0
+entry-below : (n s i j : ℕ) → zero < s → i < suc n → j < suc n → entryAt (diagonalMatrix (suc n) s) i j < getD (diagonalModuli (suc n) s) i 0
 unfolding diagonalModuli diagonalMatrix
-entry-below n s zero j l h = omega (arith, zero-entry (suc n) j)
-entry-below n s (suc i) j l h =
-    subst⁻¹ (λ (m : ℕ). entryAt (diagonalRows (suc n) s 1 n) i j < m) (getD-replicate n i s 0 (le-of-suc-le-suc h)) (rows-below (suc n) s 1 n i j l)
+entry-below n s zero j l h m = omega (arith, getD-replicate {A = ℕ} (suc n) j 0 0 m)
+entry-below n s (suc i) j l h m =
+    subst⁻¹ (λ (b : ℕ). entryAt (diagonalRows (suc n) s 1 n) i j < b) (getD-replicate n i s 0 (le-of-suc-le-suc h)) (rows-below (suc n) s 1 n i j l)
 
 -- ---- the plan of a job of d = n + 2 dimensions
 
@@ -160,7 +133,7 @@ module _ (job : Job) (n s : ℕ) (dimensions : job .d ≡ suc (suc n)) (processo
     moduli-product = subst⁻¹ (λ (d : ℕ). product (diagonalModuli d s) ≡ job .p) dimensions (moduli-product (suc n) s ∙ processors);
     entry-below = λ i j l m.
         subst⁻¹ (λ (d : ℕ). entryAt (diagonalMatrix d s) i j < getD (diagonalModuli d s) i 0) dimensions
-        (entry-below (suc n) s i j positive (subst (λ (d : ℕ). i < d) dimensions l));
+        (entry-below (suc n) s i j positive (subst (λ (d : ℕ). i < d) dimensions l) (subst (λ (d : ℕ). j < d) dimensions m));
     kind-high = le-refl 1;
   }
     where

@@ -2,8 +2,8 @@
 use mathlib.Core.Path.{_≡_, refl, sym, ap, ap₂, _∙_, subst, subst⁻¹}
 use mathlib.Core.Logic.{⊎-elim}
 use mathlib.Core.List.{List, [], _∷_, _++_}
-use Prim.Native.Nat.{ℕ, zero, suc, _+_, _-_, _*_, _%_, _^_, _<_}
-use native.Mathlib.Nat.{zero-mul, mul-zero, mul-one, mod-lt, mod-eq-of-lt, mod-add-mod, add-mod-mod, pow-zero, pow-succ', dvd-refl, div-self, not-suc-le-zero, le-of-suc-le-suc, eq-or-lt-of-le}
+use Prim.Native.Nat.{ℕ, zero, suc, _+_, _-_, _*_, _%_, _^_, _<_, _∣_}
+use native.Mathlib.Nat.{zero-mul, mul-zero, mul-one, mod-lt, mod-eq-of-lt, pow-zero, pow-succ', dvd-refl, div-self, not-suc-le-zero, le-of-suc-le-suc, eq-or-lt-of-le}
 use native.Mathlib.Numerals.{add-one}
 use native.Mathlib.Decide.{ℕ-discrete}
 use native.Mathlib.Omega.{arith}
@@ -11,7 +11,6 @@ use lib.ListN.{length, getD, replicate, replicate-append-replicate, length-repli
 use lib.Seq.{getD-append-seam}
 use Rattle.numbers.specs.Products.{product}
 use Rattle.numbers.specs.Sums.{sum, same}
-use Rattle.numbers.proofs.Congruence.{add-multiple}
 use Rattle.numbers.proofs.Sums.{same-yes, same-no, sum-mul-left}
 use Rattle.numbers.proofs.Residues.{count-residue}
 use Rattle.multipartition.specs.Lists.{first, rest}
@@ -20,6 +19,7 @@ use Rattle.multipartition.specs.Tiles.{Inside}
 use Rattle.multipartition.specs.Rivals.{held}
 use Rattle.multipartition.proofs.MixedRadix.{Positive, digits-inside, digits-of-number, number-of-digits, length-digits}
 use Rattle.multipartition.proofs.Tiles.{inside-length, inside-below}
+use Rattle.multipartition.proofs.Evenness.{negated}
 use Rattle.multipartition.proofs.GridSums.{sum-cong, same-iff, sum-pick, total, total-ext, total-mul-left, total-swap, held-total}
 use Rattle.diagonal.specs.Diagonal.{diagonalCuts, diagonalOwner}
 use Rattle.diagonal.proofs.Owners.{shifted, diagonal-owner}
@@ -131,26 +131,15 @@ total-agree-slab (suc n) s w (suc k) v (q ∷ qs) h l m =
 
 -- v less z is c just if z plus c is v
 difference-iff : (s v z c : ℕ) → v < s → c < s → same ((v + (s - 1) * z) % s) c ≡ same ((z + c) % s) v
-difference-iff s v z c l m = same-iff ((v + (s - 1) * z) % s) c ((z + c) % s) v there back
+difference-iff s v z c l m =
+    negated (s - 1) s v z c whole m
+    ∙ same-iff (v % s) ((c + z) % s) ((z + c) % s) v (λ e. turned ∙ sym e ∙ mod-eq-of-lt l) (λ e. mod-eq-of-lt l ∙ sym e ∙ turned)
   where
-    once : (y : ℕ) → (s - 1) * y + y ≡ s * y
-    once y = let whole : s ≡ s - 1 + 1 = omega arith in sym (ap (λ (t : ℕ). t * y) whole ∙ omega arith)
+    whole : s ∣ s - 1 + 1
+    whole = let all : s - 1 + 1 ≡ s = omega arith in subst⁻¹ (λ (n : ℕ). s ∣ n) all (dvd-refl s)
 
-    there : (v + (s - 1) * z) % s ≡ c → (z + c) % s ≡ v
-    there e =
-        ap (λ (n : ℕ). (z + n) % s) (sym e)
-        ∙ add-mod-mod z (v + (s - 1) * z) s
-        ∙ ap (λ (n : ℕ). n % s) (omega (arith, once z))
-        ∙ add-multiple s v z
-        ∙ mod-eq-of-lt l
-
-    back : (z + c) % s ≡ v → (v + (s - 1) * z) % s ≡ c
-    back e =
-        ap (λ (n : ℕ). (n + (s - 1) * z) % s) (sym e)
-        ∙ mod-add-mod (z + c) s ((s - 1) * z)
-        ∙ ap (λ (n : ℕ). n % s) (omega (arith, once z))
-        ∙ add-multiple s c z
-        ∙ mod-eq-of-lt m
+    turned : (z + c) % s ≡ (c + z) % s
+    turned = ap (λ (n : ℕ). n % s) (omega arith)
 
 count-difference : (s v c : ℕ) → v < s → c < s → sum s (λ z. same ((v + (s - 1) * z) % s) c) ≡ 1
 count-difference s v c l m = sum-cong s (λ z b. difference-iff s v z c l m) ∙ count-shifted s c v l

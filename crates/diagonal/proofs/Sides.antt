@@ -8,11 +8,12 @@ use native.Mathlib.Nat.{pow-lt-pow-left, pow-succ', pow-zero, mul-one, zero-mul,
 use native.Mathlib.Decide.{decLt}
 use native.Mathlib.Omega.{arith}
 use lib.Dec.{leb, eqb}
-use lib.ListN.{length, getD, replicate}
+use lib.ListN.{length, getD, replicate, length-replicate, getD-replicate}
 use Rattle.multipartition.specs.Cuts.{Fits}
 use Rattle.multipartition.specs.Lists.{firstSuch}
 use Rattle.multipartition.specs.Plans.{between}
 use Rattle.multipartition.proofs.Tests.{and-true-iff, allBelow-true-iff, eqb-iff, leb-iff, between-true-iff, by-cond}
+use Rattle.multipartition.proofs.Fitting.{fits-le-extent}
 use Rattle.multipartition.proofs.Searches.{first-such-low, first-such-passes, first-such-only}
 use Rattle.diagonal.specs.Diagonal.{isSide, sideOf, suits, sideFits}
 
@@ -149,3 +150,11 @@ fits-of-side s extents l e =
     all-fit : (extents : List ℕ) → ((k : ℕ) → k < length extents → s ≤ getD extents k 0) → Fits extents (replicate (length extents) s)
     all-fit [] h = tt
     all-fit (n ∷ extents) h = (l, h 0 (omega arith), all-fit extents (λ k m. h (suc k) (omega arith)))
+
+pub side-of-fits : (s : ℕ) (extents : List ℕ) → Fits extents (replicate (length extents) s) → sideFits s extents ≡ true
+unfolding sideFits
+side-of-fits s extents fits =
+    allBelow-true-iff (length extents) (λ k. leb s (getD extents k 0)) .1
+    (λ k l. leb-iff s (getD extents k 0) .1
+    (subst (λ (b : ℕ). b ≤ getD extents k 0) (getD-replicate (length extents) k s 0 l)
+    (fits-le-extent extents (replicate (length extents) s) fits k (subst⁻¹ (λ (m : ℕ). k < m) (length-replicate (length extents) s) l))))

@@ -1,7 +1,8 @@
--- What the call answers, in the words of document 02, request c: the hypercube's owners are processors, one bit apart or two at a common face.
--- And the answer by the checks that a call passes or fails.
+-- The answer by the checks that a call passes or fails; and what it says, in the words of document 02, request c: the hypercube's owners are
+-- processors, one bit apart or two at a common face.
 use mathlib.Core.Path.{_≡_, refl, sym, ap, _∙_, subst, subst₂}
 use mathlib.Core.Bool.{true, false}
+use mathlib.Core.Logic.{_↔_}
 use mathlib.Core.List.{List, [], _∷_}
 use Prim.Native.Nat.{ℕ, zero, _+_, _*_, _%_, _^_, _≤_, _<_}
 use native.Mathlib.Nat.{one-le-pow}
@@ -18,47 +19,6 @@ use Rattle.multipartition.proofs.Tiles.{inside-of-test, test-of-inside}
 use Rattle.hypercube.specs.Hypercube.{gray, hypercubeCuts, hypercubeOwner, bitsApart, bitsAlong, exponentOf, hypercubeChecks, hypercubeAnswer}
 use Rattle.hypercube.proofs.Exponents.{powers-high, exponent-iff, side-test}
 use Rattle.hypercube.proofs.Hypercube.{hypercube-owner-below, hypercube-faces}
-
-module _ (p : ℕ) where
-  -- what an answer says
-  hypercube-told : (x : List ℕ) (q : ℕ) → hypercubeAnswer p x ≡ answered q
-      → (exponentOf p ≤ 6) × (4 ^ exponentOf p ≡ p) × Inside (hypercubeCuts (exponentOf p)) x × (hypercubeOwner (exponentOf p) x ≡ q)
-  unfolding hypercubeAnswer
-  hypercube-told x q e =
-      let h = answers-iff (hypercubeChecks p x) (hypercubeOwner (exponentOf p) x) q .0 e in
-      let small = leb-true (exponentOf p) 6 (not-false (leb (exponentOf p) 6) (h .0 .1 .0)) in (
-        small,
-        exponent-iff p (exponentOf p) small .0 refl,
-        inside-of-test (hypercubeCuts (exponentOf p)) x (not-false (isInside (hypercubeCuts (exponentOf p)) x) (h .0 .1 .1 .0)),
-        h .1,
-      )
-
-  -- the owner of any position inside, where p is 4 to the power e
-  pub hypercube-of : (e : ℕ) (x : List ℕ) → e ≤ 6 → 4 ^ e ≡ p → Inside (hypercubeCuts e) x → hypercubeAnswer p x ≡ answered (hypercubeOwner e x)
-  unfolding hypercubeAnswer
-  hypercube-of e x small q w =
-      let found : exponentOf p ≡ e = exponent-iff p e small .1 q in
-      let four : zero < 4 = omega arith in
-      rw (
-        between-true-iff 1 4096 p .1 (subst (λ (m : ℕ). 1 ≤ m) q (one-le-pow e 4 four), subst (λ (m : ℕ). m ≤ 4096) q (powers-high e small .0)),
-        found,
-        le-leb e 6 small,
-        test-of-inside (hypercubeCuts e) x w,
-      )
-
-  -- an owner is a processor
-  pub hypercube-answer-below : (x : List ℕ) (q : ℕ) → hypercubeAnswer p x ≡ answered q → q < p
-  hypercube-answer-below x q a =
-      let h = hypercube-told x q a in
-      subst₂ (λ (r m : ℕ). r < m) (h .3) (h .1) (hypercube-owner-below (exponentOf p) x)
-
-  -- "owners of hypercube tiles with a common face along i1 or along i2 differ in just one bit and along i3 in just two"
-  pub hypercube-answer-faces : (x y : List ℕ) (q r : ℕ) → hypercubeAnswer p x ≡ answered q → hypercubeAnswer p y ≡ answered r → (face : Face x y)
-      → bitsApart q r ≡ bitsAlong (face .dimension)
-  hypercube-answer-faces x y q r a b face =
-      let h = hypercube-told x q a in
-      let k = hypercube-told y r b in
-      subst₂ (λ (m n : ℕ). bitsApart m n ≡ bitsAlong (face .dimension)) (h .3) (k .3) (hypercube-faces (exponentOf p) (h .0) x y (h .2) (k .2) face)
 
 -- ---- the checks of the code, one after the other
 
@@ -89,3 +49,54 @@ module _ (p : ℕ) (x : List ℕ) where
             → hypercubeAnswer p x ≡ answered (gray ((getD x 1 0 + getD x 2 0) % side) * side + gray ((getD x 0 0 + getD x 2 0) % side))
         unfolding hypercubeAnswer hypercubeCuts hypercubeOwner
         owned i = rw (le-leb 1 p low, le-leb p 4096 high, suits, le-leb side 64 small, sym e, i)
+
+-- ---- what an answer says
+
+module _ (p : ℕ) where
+  -- what an answer says
+  hypercube-told : (x : List ℕ) (q : ℕ) → hypercubeAnswer p x ≡ answered q
+      → (exponentOf p ≤ 6) × (4 ^ exponentOf p ≡ p) × Inside (hypercubeCuts (exponentOf p)) x × (hypercubeOwner (exponentOf p) x ≡ q)
+  unfolding hypercubeAnswer
+  hypercube-told x q e =
+      let h = answers-iff (hypercubeChecks p x) (hypercubeOwner (exponentOf p) x) q .0 e in
+      let small = leb-true (exponentOf p) 6 (not-false (leb (exponentOf p) 6) (h .0 .1 .0)) in (
+        small,
+        exponent-iff p (exponentOf p) small .0 refl,
+        inside-of-test (hypercubeCuts (exponentOf p)) x (not-false (isInside (hypercubeCuts (exponentOf p)) x) (h .0 .1 .1 .0)),
+        h .1,
+      )
+
+  -- the owner of any position inside, where p is 4 to the power e
+  pub hypercube-of : (e : ℕ) (x : List ℕ) → e ≤ 6 → 4 ^ e ≡ p → Inside (hypercubeCuts e) x → hypercubeAnswer p x ≡ answered (hypercubeOwner e x)
+  unfolding hypercubeAnswer
+  hypercube-of e x small q w =
+      let found : exponentOf p ≡ e = exponent-iff p e small .1 q in
+      let four : zero < 4 = omega arith in
+      rw (
+        between-true-iff 1 4096 p .1 (subst (λ (m : ℕ). 1 ≤ m) q (one-le-pow e 4 four), subst (λ (m : ℕ). m ≤ 4096) q (powers-high e small .0)),
+        found,
+        le-leb e 6 small,
+        test-of-inside (hypercubeCuts e) x w,
+      )
+
+  -- what it takes for a position to be answered, and with which owner
+  pub hypercube-answered : (x : List ℕ) (q : ℕ)
+      → (hypercubeAnswer p x ≡ answered q) ↔ ((e : ℕ) × (e ≤ 6) × (4 ^ e ≡ p) × Inside (hypercubeCuts e) x × (hypercubeOwner e x ≡ q))
+  hypercube-answered x q = (
+    (λ a. let h = hypercube-told x q a in (exponentOf p, h .0, h .1, h .2, h .3)),
+    λ h. hypercube-of (h .0) x (h .1) (h .2) (h .3) ∙ ap answered (h .4),
+  )
+
+  -- an owner is a processor
+  pub hypercube-answer-below : (x : List ℕ) (q : ℕ) → hypercubeAnswer p x ≡ answered q → q < p
+  hypercube-answer-below x q a =
+      let h = hypercube-told x q a in
+      subst₂ (λ (r m : ℕ). r < m) (h .3) (h .1) (hypercube-owner-below (exponentOf p) x)
+
+  -- "owners of hypercube tiles with a common face along i1 or along i2 differ in just one bit and along i3 in just two"
+  pub hypercube-answer-faces : (x y : List ℕ) (q r : ℕ) → hypercubeAnswer p x ≡ answered q → hypercubeAnswer p y ≡ answered r → (face : Face x y)
+      → bitsApart q r ≡ bitsAlong (face .dimension)
+  hypercube-answer-faces x y q r a b face =
+      let h = hypercube-told x q a in
+      let k = hypercube-told y r b in
+      subst₂ (λ (m n : ℕ). bitsApart m n ≡ bitsAlong (face .dimension)) (h .3) (k .3) (hypercube-faces (exponentOf p) (h .0) x y (h .2) (k .2) face)

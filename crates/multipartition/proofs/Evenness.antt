@@ -77,7 +77,7 @@ hits-number p (b ∷ cuts) ys q l h =
 -- ---- one coordinate vector
 
 -- `neg` works as -1: what it multiplies goes to the other side
-negated : (neg m x z c : ℕ) → m ∣ neg + 1 → c < m → same ((x + neg * z) % m) c ≡ same (x % m) ((c + z) % m)
+pub negated : (neg m x z c : ℕ) → m ∣ neg + 1 → c < m → same ((x + neg * z) % m) c ≡ same (x % m) ((c + z) % m)
 negated neg m x z c d l = same-iff ((x + neg * z) % m) c (x % m) ((c + z) % m) there back
   where
     multiple : (y k : ℕ) → m ∣ k → (y + k) % m ≡ y % m

@@ -19,7 +19,7 @@ unfolding remainder
 remainder-below (pos n) m l = mod-lt n l
 remainder-below (negsuc n) m l = omega arith
 
-listOf-below : (from n : ℕ) (f : ℕ → ℕ) (m : ℕ) → zero < m → ((i : ℕ) → f i < m) → (j : ℕ) → getD (listOf from n f) j 0 < m
+pub listOf-below : (from n : ℕ) (f : ℕ → ℕ) (m : ℕ) → zero < m → ((i : ℕ) → f i < m) → (j : ℕ) → getD (listOf from n f) j 0 < m
 unfolding listOf
 listOf-below from zero f m l h j = l
 listOf-below from (suc n) f m l h zero = h from

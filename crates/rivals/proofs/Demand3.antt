@@ -61,7 +61,9 @@ module _ (job : Job) (plan : Plan) (e : planAnswer job ≡ answered (layoutOf pl
   owner-of x w = owner-by job plan held-job shaped x w ∙ ap (λ (own : List ℕ → ℕ). own x) owners-are
 
   ours : Ours job plan
+  unfolding layoutOf
   ours = record {
+    kind-is = ap (λ (l : Layout). l .kind) (made .plan-is);
     even =
         even-plan job plan held-job shaped d-is (chosen-fits job (cutsOf plan) (made .cuts-are))
         (λ k s q l m o.

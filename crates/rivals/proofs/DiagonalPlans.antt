@@ -1,8 +1,9 @@
 -- Diagonal plans: they are even, and so each is a rival of demand 3, which the planner's plan of the same job does not cost more than.
 use mathlib.Core.Bool.{true}
 use mathlib.Core.List.{List, [], _∷_}
+use mathlib.Core.Logic.{_⊎_, inl, inr}
 use mathlib.Core.Path.{_≡_, refl, sym, ap, ap₂, _∙_, subst, subst⁻¹}
-use Prim.Native.Nat.{ℕ, suc, _+_, _*_, _/_, _^_, _≤_, _<_, _∣_}
+use Prim.Native.Nat.{ℕ, zero, suc, _+_, _*_, _/_, _^_, _≤_, _<_, _∣_}
 use native.Mathlib.Nat.{dvd-refl}
 use native.Mathlib.Omega.{arith}
 use lib.ListN.{length, getD, length-replicate, getD-replicate}
@@ -19,9 +20,10 @@ use Rattle.layout.specs.declared.Plan.{Plan}
 use Rattle.layout.specs.Plans.{layoutOf, planOf}
 use Rattle.layout.proofs.Plans.{layout-of-plan}
 use Rattle.planner.specs.Planned.{plannedOf}
-use Rattle.diagonal.specs.Diagonal.{diagonalCuts, diagonalOwner, diagonalAnswer}
-use Rattle.diagonal.proofs.Answers.{DiagonalFor, diagonal-for, diagonal-answer-in-shape, diagonal-answer-sized, diagonal-small}
+use Rattle.diagonal.specs.Diagonal.{diagonalCuts, diagonalModuli, diagonalMatrix, diagonalOwner, diagonalAnswer}
+use Rattle.diagonal.proofs.Answers.{DiagonalFor, diagonal-answered, diagonal-answer-in-shape, diagonal-answer-sized, diagonal-small}
 use Rattle.diagonal.proofs.Plans.{diagonal-shares, diagonal-owner-2, diagonal-owner-3}
+use Rattle.diagonal.proofs.Places.{moduli-of-2, moduli-of-3, matrix-of-2, matrix-of-3}
 use Rattle.diagonal.proofs.Shares.{product-replicate}
 use Rattle.diagonal.proofs.Sides.{power-one, square, pow-injective}
 use Rattle.rivals.specs.Demand3.{cutsOf, ownerIn, EvenPlan, Demand3}
@@ -54,6 +56,12 @@ module _ (job : Job) (n s : ℕ) (dimensions : job .d ≡ suc (suc n)) (processo
 module _ (job : Job) (plan : Plan) (shaped : inShape (layoutOf plan) ≡ true) (made : DiagonalFor job (layoutOf plan)) where
   cuts-are : cutsOf plan ≡ diagonalCuts (job .d) (made .s)
   cuts-are = ap (λ (l : Layout). l .cuts) (made .plan-is)
+
+  moduli-are : layoutOf plan .moduli ≡ diagonalModuli (job .d) (made .s)
+  moduli-are = ap (λ (l : Layout). l .moduli) (made .plan-is)
+
+  matrix-is : layoutOf plan .matrix ≡ diagonalMatrix (job .d) (made .s)
+  matrix-is = ap (λ (l : Layout). l .matrix) (made .plan-is)
 
   owners-are : ownerBy plan ≡ diagonalOwner (job .d) (made .s)
   unfolding diagonalOwner
@@ -117,17 +125,28 @@ module _ (job : Job) (plan : Plan) (shaped : inShape (layoutOf plan) ≡ true) (
     even = even;
     planned-too = accepted;
     never-cheaper = no-cheaper;
+    suited = go (made .n) refl;
     cuts-2 = λ two. cuts-are ∙ ap₂ diagonalCuts two (side-2 two);
+    moduli-2 = λ two. moduli-are ∙ ap₂ diagonalModuli two (side-2 two) ∙ moduli-of-2 (job .p);
+    rows-2 = λ two. matrix-is ∙ ap₂ diagonalMatrix two (side-2 two) ∙ matrix-of-2 (job .p);
     owner-2 = λ two i1 i2 w.
         owner-is (i1 ∷ i2 ∷ []) w
         ∙ ap₂ (λ (d m : ℕ). diagonalOwner d m (i1 ∷ i2 ∷ [])) two (side-2 two)
         ∙ diagonal-owner-2 (job .p) i1 i2 (made .passed .range .p-low);
     cuts-3 = λ three t q. cuts-are ∙ ap₂ diagonalCuts three (side-3 three t q);
+    moduli-3 = λ three t q. moduli-are ∙ ap₂ diagonalModuli three (side-3 three t q) ∙ moduli-of-3 t;
+    rows-3 = λ three t q. matrix-is ∙ ap₂ diagonalMatrix three (side-3 three t q) ∙ matrix-of-3 t;
     owner-3 = λ three t q i1 i2 i3 w.
         owner-is (i1 ∷ i2 ∷ i3 ∷ []) w
         ∙ ap₂ (λ (d m : ℕ). diagonalOwner d m (i1 ∷ i2 ∷ i3 ∷ [])) three (side-3 three t q)
         ∙ diagonal-owner-3 t i1 i2 i3 (subst (λ (m : ℕ). 1 ≤ m) (side-3 three t q) (made .positive));
   }
+    where
+      go : (n : ℕ) → made .n ≡ n → (job .d ≡ 2) ⊎ ((job .d ≡ 3) × ((s : ℕ) × (job .p ≡ s * s)))
+      go zero e = inl (omega (arith, made .dimensions, e))
+      go (suc n) e =
+          let one : made .n ≡ 1 = omega (arith, e, made .few) in
+          inr (omega (arith, made .dimensions, one), (made .s, sym (made .processors) ∙ ap (λ (n : ℕ). made .s ^ suc n) one ∙ square (made .s)))
 
 -- "Diagonal plans are shown even and never cheaper than the planner's", for all jobs.
 pub diagonal-plans : (job : Job) → DiagonalPlans job (plannedOf (diagonalAnswer job))
@@ -137,7 +156,7 @@ diagonal-plans job = go (diagonalAnswer job) refl
     go : (a : Answer Layout) → diagonalAnswer job ≡ a → DiagonalPlans job (plannedOf a)
     go (answered l) e z =
         let back : diagonalAnswer job ≡ answered (layoutOf (planOf l)) = e ∙ ap answered (sym (layout-of-plan l (diagonal-answer-sized job l e))) in
-        diagonal job (planOf l) (diagonal-answer-in-shape job (layoutOf (planOf l)) back) (diagonal-for job (layoutOf (planOf l)) back)
+        diagonal job (planOf l) (diagonal-answer-in-shape job (layoutOf (planOf l)) back) (diagonal-answered job (layoutOf (planOf l)) .0 back)
     go (refused number place) e z =
         let small = subst (Small (1 + length (job .extents))) e (diagonal-small job) in absurd (omega (arith, small .0, z))
 

@@ -2,7 +2,7 @@
 use mathlib.Core.Bool.{Bool, true}
 use mathlib.Core.List.{List}
 use mathlib.Core.Option.{some}
-use mathlib.Core.Path.{_≡_, refl, sym, ap, _∙_, subst⁻¹}
+use mathlib.Core.Path.{_≡_, refl, sym, ap, _∙_, subst, subst⁻¹}
 use Prim.Native.Nat.{ℕ, _-_, _*_, _/_, _≤_, _<_, _∣_}
 use native.Mathlib.Omega.{arith}
 use lib.ListN.{length, getD}
@@ -14,12 +14,13 @@ use Rattle.multipartition.specs.Neighbours.{neighbourAt}
 use Rattle.multipartition.specs.Owners.{ownerAt}
 use Rattle.multipartition.specs.Plans.{Job, jobOf, inShape}
 use Rattle.multipartition.specs.Questions.{ownerAnswer, neighbourAnswer}
-use Rattle.multipartition.specs.Rivals.{held, Balanced}
+use Rattle.multipartition.specs.Rivals.{Rival, held, Balanced}
 use Rattle.multipartition.specs.Tiles.{Inside, oneStepOn}
 use Rattle.multipartition.proofs.BothWays.{owner-answered, neighbour-answered}
 use Rattle.multipartition.proofs.GridSums.{total-ext, held-total}
 use Rattle.multipartition.proofs.Owners.{owner-below-product}
 use Rattle.multipartition.proofs.Plans.{in-shape-moduli-positive, in-shape-neighbour-owns, moduli-checked}
+use Rattle.multipartition.proofs.Rivals.{even-of-balanced}
 use Rattle.multipartition.proofs.Tests.{between-true-iff}
 use Rattle.multipartition.proofs.Tiles.{one-step-on-inside}
 use Rattle.layout.specs.declared.Plan.{Plan}
@@ -92,7 +93,8 @@ module _ (job : Job) (plan : Plan) (held-job : jobOf (layoutOf plan) ≡ job) (s
       fits = fits;
       owner-answered = λ x w. owner-answers x w ∙ ap answered (sym (owner-by x w));
       owner-below = owner-is-processor;
-      balanced = λ k s l m q r o o′. shares-are k s q l m o ∙ sym (shares-are k s r l m o′);
+      cuts-even = even-of-balanced (job .p) (job .extents) some-processor rival balanced-are;
+      balanced = balanced-are;
       shares = shares-are;
       share-exact = exact;
       cost-summed = cost;
@@ -103,3 +105,12 @@ module _ (job : Job) (plan : Plan) (held-job : jobOf (layoutOf plan) ≡ job) (s
         shares-are : (k s q : ℕ) → k < length (cutsOf plan) → s < getD (cutsOf plan) k 0 → q < job .p
             → held (cutsOf plan) (ownerIn plan) k s q ≡ product (cutsOf plan) / (getD (cutsOf plan) k 0 * job .p)
         shares-are k s q l m o = held-ext (cutsOf plan) (ownerIn plan) (ownerBy plan) k s q owner-by ∙ shares k s q l m o
+
+        balanced-are : Balanced (job .p) (cutsOf plan) (ownerIn plan)
+        balanced-are k s l m q r o o′ = shares-are k s q l m o ∙ sym (shares-are k s r l m o′)
+
+        rival : Rival job
+        rival = record { cuts = cutsOf plan; member = fits; owner = ownerIn plan; below = owner-is-processor }
+
+        some-processor : 1 ≤ job .p
+        some-processor = subst (λ (n : ℕ). 1 ≤ n) p-is (moduli-checked (layoutOf plan) shaped .0)

@@ -1,5 +1,5 @@
 -- Demand 3 (document 01, "The rival of demand 3"): what holds of the plan that the planner answers, and of what the owner and neighbour questions
--- answer about it, against every rival. The calls promise the definitions planAnswer, ownerAnswer and neighbourAnswer, which stand here for them.
+-- answer about it, against every rival; and what holds of every even plan. The calls promise the definitions planAnswer, ownerAnswer and neighbourAnswer, which stand here for them.
 use mathlib.Core.Bool.{Bool, true}
 use mathlib.Core.List.{List}
 use mathlib.Core.Logic.{_⊎_, _↔_, _≢_}
@@ -9,7 +9,7 @@ use Prim.Native.Nat.{ℕ, _-_, _*_, _/_, _≤_, _<_, _∣_}
 use lib.ListN.{length, getD}
 use Rattle.numbers.specs.Products.{product}
 use Rattle.multipartition.specs.Answers.{Answer, answered, refused}
-use Rattle.multipartition.specs.Cuts.{Fits, costOf}
+use Rattle.multipartition.specs.Cuts.{Even, Fits, costOf}
 use Rattle.multipartition.specs.Plans.{Job, jobOf, inShape}
 use Rattle.multipartition.specs.Questions.{ownerAnswer, neighbourAnswer}
 use Rattle.multipartition.specs.Rivals.{Rival, held, Balanced, Face}
@@ -41,6 +41,8 @@ pub record EvenPlan (job : Job) (plan : Plan) : Type 0 where
   -- the owner question names a processor for every tile
   pub owner-answered : (x : List ℕ) → Inside (cutsOf plan) x → ownerAnswer (layoutOf plan) x ≡ answered (ownerIn plan x)
   pub owner-below : (x : List ℕ) → Inside (cutsOf plan) x → ownerIn plan x < job .p
+  -- "Cuts are even if p divides the product of all cuts but bk, for every k."
+  pub cuts-even : Even (job .p) (cutsOf plan)
   -- it "gives every processor equally many tiles in every slab": "every processor owns exactly tiles / (bk · p) tiles of each slab of dimension k"
   pub balanced : Balanced (job .p) (cutsOf plan) (ownerIn plan)
   pub shares : (k s q : ℕ) → k < length (cutsOf plan) → s < getD (cutsOf plan) k 0 → q < job .p
@@ -60,6 +62,8 @@ pub record EvenPlan (job : Job) (plan : Plan) : Type 0 where
 
 -- What holds of a plan that the planner answers.
 pub record Ours (job : Job) (plan : Plan) : Type 0 where
+  -- document 02, request c: "a kind field: 0 for the planner's"
+  pub kind-is : plan .kind ≡ 0
   pub even : EvenPlan job plan
   -- no balanced rival costs less; document 02, request a: "The rival's cost is counted in the same way from here on."
   pub cheapest-of-all : (rival : Rival job) → Balanced (job .p) (rival .cuts) (rival .owner) → plan .cost ≤ costOf (job .weights) (rival .cuts)

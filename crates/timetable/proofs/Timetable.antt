@@ -15,6 +15,7 @@ use lib.ListN.{length, getD, set}
 use Rattle.numbers.specs.Sums.{sum}
 use Rattle.numbers.proofs.Sums.{sum-term-le}
 use Rattle.multipartition.specs.Answers.{answered}
+use Rattle.multipartition.specs.Jobs.{planAnswer}
 use Rattle.multipartition.specs.Neighbours.{nextOwner}
 use Rattle.multipartition.specs.Plans.{Job, Layout, tilesOf, inShape, InShape}
 use Rattle.multipartition.specs.Questions.{cutOf}
@@ -26,11 +27,14 @@ use Rattle.multipartition.proofs.Owners.{owner-below-product}
 use Rattle.multipartition.proofs.Plans.{in-shape-iff, in-shape-moduli-positive, in-shape-neighbour-owns, in-shape-neighbour-returns}
 use Rattle.multipartition.proofs.Tiles.{lt-length, step-up, step-down}
 use Rattle.layout.specs.declared.Plan.{Plan}
-use Rattle.layout.specs.Plans.{layoutOf}
+use Rattle.layout.specs.Plans.{layoutOf, planOf}
 use Rattle.layout.proofs.Places.{extents-length, cuts-length}
 use Rattle.layout.proofs.Shaped.{shaped}
+use Rattle.diagonal.specs.Diagonal.{diagonalAnswer}
 use Rattle.rivals.specs.Demand3.{ownerIn, EvenPlan}
 use Rattle.rivals.proofs.EvenPlans.{held-ext, owner-by}
+use Rattle.rivals.proofs.Demand3.{planner-even}
+use Rattle.rivals.proofs.DiagonalPlans.{diagonal-even}
 use Rattle.timetable.specs.Timetable.{ownerBy, neighbourBy, otherExtents, slabVisited, facesAt, Message, messageWith, lengthOf, sendsAfter, expectsBefore, Visit, visitOf, timetableAnswer, Asked, Sends, Expects, sentIn}
 use Rattle.timetable.proofs.Faces.{Cut, held-faces-move, held-faces-add-up}
 use Rattle.timetable.proofs.Answers.{timetable-answered}
@@ -280,8 +284,7 @@ module _ (plan : Plan) (k : ℕ) (up : Bool) (s q : ℕ) (visit : Visit) (e : ti
 
 -- ---- even plans: the planner's and diagonal ones
 
--- "every processor owns exactly tiles / (bk · p) tiles of each slab": so many it works on in every step, and the share is not rounded. Even are the
--- plans that the planner answers and the diagonal ones (crate `rivals`: planner-even, diagonal-even).
+-- "every processor owns exactly tiles / (bk · p) tiles of each slab": so many it works on in every step, and the share is not rounded
 pub even-tiles : (job : Job) (plan : Plan) → EvenPlan job plan → (k : ℕ) (up : Bool) (s q : ℕ) (visit : Visit)
     → timetableAnswer (layoutOf plan) k up s q ≡ answered visit
     → (visit .tiles ≡ tilesOf (layoutOf plan) / (cutOf (layoutOf plan) k * layoutOf plan .p))
@@ -308,3 +311,16 @@ even-tiles job plan even k up s q visit e = (
 
     in-cuts : k - 1 < length (layout .cuts)
     in-cuts = within (layout .cuts) (k - 1) s (here .step-below)
+
+module _ (job : Job) (layout : Layout) (k : ℕ) (up : Bool) (s q : ℕ) (visit : Visit) (e : timetableAnswer (layoutOf (planOf layout)) k up s q ≡ answered visit) where
+  abbrev Share : Type 0
+  Share =
+      (visit .tiles ≡ tilesOf (layoutOf (planOf layout)) / (cutOf (layoutOf (planOf layout)) k * layoutOf (planOf layout) .p))
+      × (cutOf (layoutOf (planOf layout)) k * layoutOf (planOf layout) .p ∣ tilesOf (layoutOf (planOf layout)))
+
+  -- a plan by value, as `plan_job` answers it, and one as `diagonal_job` answers it
+  pub planner-tiles : planAnswer job ≡ answered layout → Share
+  planner-tiles made = even-tiles job (planOf layout) (planner-even job layout made) k up s q visit e
+
+  pub diagonal-tiles : diagonalAnswer job ≡ answered layout → Share
+  diagonal-tiles made = even-tiles job (planOf layout) (diagonal-even job layout made) k up s q visit e

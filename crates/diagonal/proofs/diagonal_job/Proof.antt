@@ -28,7 +28,7 @@ p-range : (c : tie.Else2) → (1 ≤ c .before .before .before .before .args .p)
 p-range c = in-range-of-test 1 4096 (c .before .before .before .before .args .p) (c .if2 .left)
 
 side-within : (c : tie.Else3) → c .before .side-of .result ≤ c .before .before .before .before .before .before .args .p
-side-within c = omega (arith, c .if3 .left)
+side-within c = search needs
 
 suited : (c : tie.Else3) → let a = c .before .before .before .before .before .before .args in (suits (a .d) (a .p) ≡ true) × (c .before .side-of .result ≡ sideOf (a .d) (a .p))
 suited c =
