@@ -69,7 +69,7 @@ pub figures : map computed cases ≡ cases
 unfolding diagonalAnswer suits isSide sideOf sideFits firstSuch firstOutside allBelow cutCost diagonalModuli diagonalRow diagonalRows diagonalMatrix ownerAt coordinatesAt times numberFrom listOf same positions startingWith
 figures = refl
 
--- 16 processors: the owners of the plane i3 = 0 and of the plane i3 = 1, row by row, as in the first figure of source document 001
+-- 16 processors, the layout of the first figure of source document 001: the owners of the plane i3 = 0 and of the plane i3 = 1, row by row
 abbrev plane : ℕ → List ℕ
 plane i3 = map (λ (x : List ℕ). diagonalOwner 3 4 (x ++ (i3 ∷ []))) (positions (4 ∷ 4 ∷ []))
 

@@ -11,8 +11,8 @@ ghost use Rattle.layout.specs.Plans.{layoutOf, noPlan};
 ghost use Rattle.layout.specs.Shaped.{Ranges, entryOf, placeFits, Factors, Shaped};
 ghost use Rattle.layout.specs.Lent.{Lent, isLent, lentPlan, planOver};
 
-// Lists hold dimension k at place k - 1, and row i of the matrix stands at places 5 * (i - 1) on. Places past d are zero in the planner's
-// answer and are never read. The kind is 0 for the planner's plans and 1 for diagonal ones.
+// Lists hold dimension k at place k - 1, and row i of the matrix stands at places 5 * (i - 1) on. Places past d are zero in a plan that a call
+// answers, and are never read. The kind is 0 for the planner's plans and 1 for diagonal ones.
 pub struct Plan {
     pub d: usize,
     pub p: u32,

@@ -83,7 +83,7 @@ fn put_plane(out: &mut [u8], at: usize, plan: Plan, i3: u32) -> usize
     put_row(out, next, plan, 3, i3)
 }
 
-// 16 processors: the planes i3 = 0 and i3 = 1 of the first figure of source document 001.
+// 16 processors, the layout of the first figure of source document 001: the planes i3 = 0 and i3 = 1.
 fn put_first_figure(out: &mut [u8], at: usize) -> usize
     ensures { λ r. ⌜ length (now (out .exit)) ≡ length (now (out .entry)) ⌝ }
 {
