@@ -1,4 +1,4 @@
--- A plan in shape whose owners have equal shares is an even plan, of what the owner and neighbour questions answer about it.
+-- A plan in shape that fits, with equal, exact shares and its cost summed, is an even plan, of what the owner and neighbour questions answer about it.
 use mathlib.Core.Bool.{Bool, true}
 use mathlib.Core.List.{List}
 use mathlib.Core.Option.{some}

@@ -29,8 +29,11 @@ use Rattle.multipartition.proofs.Tiles.{lt-length, step-up, step-down}
 use Rattle.layout.specs.declared.Plan.{Plan}
 use Rattle.layout.specs.Plans.{layoutOf, planOf}
 use Rattle.layout.proofs.Places.{extents-length, cuts-length}
+use Rattle.layout.proofs.Plans.{layout-of-plan}
 use Rattle.layout.proofs.Shaped.{shaped}
+use Rattle.planner.proofs.Answers.{plan-sized}
 use Rattle.diagonal.specs.Diagonal.{diagonalAnswer}
+use Rattle.diagonal.proofs.Answers.{diagonal-answer-sized}
 use Rattle.rivals.specs.Demand3.{ownerIn, EvenPlan}
 use Rattle.rivals.proofs.EvenPlans.{held-ext, owner-by}
 use Rattle.rivals.proofs.Demand3.{planner-even}
@@ -312,15 +315,15 @@ even-tiles job plan even k up s q visit e = (
     in-cuts : k - 1 < length (layout .cuts)
     in-cuts = within (layout .cuts) (k - 1) s (here .step-below)
 
+-- the same of a plan by value, as `plan_job` answers it and as `diagonal_job` answers it
 module _ (job : Job) (layout : Layout) (k : ℕ) (up : Bool) (s q : ℕ) (visit : Visit) (e : timetableAnswer (layoutOf (planOf layout)) k up s q ≡ answered visit) where
-  abbrev Share : Type 0
-  Share =
-      (visit .tiles ≡ tilesOf (layoutOf (planOf layout)) / (cutOf (layoutOf (planOf layout)) k * layoutOf (planOf layout) .p))
-      × (cutOf (layoutOf (planOf layout)) k * layoutOf (planOf layout) .p ∣ tilesOf (layoutOf (planOf layout)))
+  abbrev Share : Layout → Type 0
+  Share plan = (visit .tiles ≡ tilesOf plan / (cutOf plan k * plan .p)) × (cutOf plan k * plan .p ∣ tilesOf plan)
 
-  -- a plan by value, as `plan_job` answers it, and one as `diagonal_job` answers it
-  pub planner-tiles : planAnswer job ≡ answered layout → Share
-  planner-tiles made = even-tiles job (planOf layout) (planner-even job layout made) k up s q visit e
+  pub planner-tiles : planAnswer job ≡ answered layout → Share layout
+  planner-tiles made =
+      subst Share (layout-of-plan layout (plan-sized job layout made)) (even-tiles job (planOf layout) (planner-even job layout made) k up s q visit e)
 
-  pub diagonal-tiles : diagonalAnswer job ≡ answered layout → Share
-  diagonal-tiles made = even-tiles job (planOf layout) (diagonal-even job layout made) k up s q visit e
+  pub diagonal-tiles : diagonalAnswer job ≡ answered layout → Share layout
+  diagonal-tiles made =
+      subst Share (layout-of-plan layout (diagonal-answer-sized job layout made)) (even-tiles job (planOf layout) (diagonal-even job layout made) k up s q visit e)

@@ -154,7 +154,8 @@ mod tests {
         assert_eq!(plan.cost, 35_175_782_146_050);
     }
 
-    /// Source document 001, figure 1: its first two planes for 16 processors.
+    /// The layout of the first figure of source document 001, by the formula of its section 2: the first
+    /// two planes for 16 processors.
     #[test]
     fn the_papers_figure_of_sixteen_processors() {
         let plan = grid(16, &[4; 3], &[1; 3]).unwrap();

@@ -20,22 +20,12 @@ use Rattle.diagonal.proofs.diagonal_job.Tie as tie
 abbrev job : tie.Start → Job
 job s = let a = s .args in jobWith (a .p) (a .d) (a .extents .now) (a .weights .now)
 
--- what has passed: d and p are in range, and they suit the layout
+-- what has passed: d and p are in range
 d-range : (c : tie.Else1) → (2 ≤ c .before .before .before .args .d) × (c .before .before .before .args .d ≤ 5)
 d-range c = in-range-of-test 2 5 (c .before .before .before .args .d) (c .if1 .left)
 
 p-range : (c : tie.Else2) → (1 ≤ c .before .before .before .before .args .p) × (c .before .before .before .before .args .p ≤ 4096)
 p-range c = in-range-of-test 1 4096 (c .before .before .before .before .args .p) (c .if2 .left)
-
-side-within : (c : tie.Else3) → c .before .side-of .result ≤ c .before .before .before .before .before .before .args .p
-side-within c = search needs
-
-suited : (c : tie.Else3) → let a = c .before .before .before .before .before .before .args in (suits (a .d) (a .p) ≡ true) × (c .before .side-of .result ≡ sideOf (a .d) (a .p))
-suited c =
-    let a = c .before .before .before .before .before .before .args in
-    let found = c .before .side-of .ensures in
-    let told = suited-within (a .d) (a .p) (subst (λ (s : ℕ). s ≤ a .p) found (side-within c)) in
-    (told .0, found ∙ told .1)
 
 refused-requires : tie.Need-refused-requires
 refused-requires c κs = search needs
@@ -61,6 +51,17 @@ returns-3 c =
     let start = c .before .before .before .before .before .before .before in
     let above = suited-above (start .args .d) (start .args .p) (subst (λ (s : ℕ). start .args .p < s) (c .before .before .side-of .ensures) (c .before .if3 .taken)) in
     c .refused3 .ensures ∙ sym (ap plannedOf (refused-12 (job start) (e .before .if1 .left) (e .if2 .left) above))
+
+-- and they suit the layout
+side-within : (c : tie.Else3) → c .before .side-of .result ≤ c .before .before .before .before .before .before .args .p
+side-within c = search needs
+
+suited : (c : tie.Else3) → let a = c .before .before .before .before .before .before .args in (suits (a .d) (a .p) ≡ true) × (c .before .side-of .result ≡ sideOf (a .d) (a .p))
+suited c =
+    let a = c .before .before .before .before .before .before .args in
+    let found = c .before .side-of .ensures in
+    let told = suited-within (a .d) (a .p) (subst (λ (s : ℕ). s ≤ a .p) found (side-within c)) in
+    (told .0, found ∙ told .1)
 
 refused-requires-4 : tie.Need-refused-requires-4
 refused-requires-4 c κs = search needs
