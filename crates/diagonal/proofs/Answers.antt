@@ -6,53 +6,36 @@ use mathlib.Core.Logic.{_↔_}
 use Prim.Native.Nat.{ℕ, zero, suc, _+_, _-_, _^_, _≤_, _<_}
 use native.Mathlib.Omega.{arith}
 use borrow.Author.Tests.{not-false}
-use lib.Dec.{leb}
 use lib.ListN.{length, replicate}
 use Rattle.multipartition.specs.Answers.{answered}
 use Rattle.multipartition.specs.Cuts.{Fits}
-use Rattle.multipartition.specs.Plans.{Job, Layout, between, inShape}
-use Rattle.multipartition.specs.Jobs.{Passed}
+use Rattle.multipartition.specs.Plans.{Job, Layout, inShape}
 use Rattle.multipartition.proofs.Answers.{Small, answers-iff, checked-small}
 use Rattle.multipartition.proofs.Jobs.{job-passes-iff, first-outside-le}
 use Rattle.multipartition.proofs.Plans.{in-shape-iff}
-use Rattle.multipartition.proofs.Tests.{and-true-iff, between-true-iff, leb-iff}
 use Rattle.layout.specs.Sized.{Sized}
-use Rattle.diagonal.specs.Diagonal.{diagonalCuts, diagonalPlan, sideOf, suits, sideFits, diagonalChecks, diagonalAnswer}
-use Rattle.diagonal.proofs.Sides.{side-low, side-le, side-power, side-is, fits-of-side, side-of-fits}
+use Rattle.diagonal.specs.Diagonal.{diagonalPlan, sideOf, suits, sideFits, diagonalChecks, diagonalAnswer, DiagonalFor}
+use Rattle.diagonal.proofs.Sides.{side-low, side-power, side-is, suits-facts, suits-of, fits-of-side, side-of-fits}
 use Rattle.diagonal.proofs.Plans.{diagonal-in-shape, diagonal-sized}
-
--- what the answer `plan` to a job says, for d = n + 2
-pub record DiagonalFor (job : Job) (plan : Layout) : Type 0 where
-  pub n : ℕ
-  pub s : ℕ
-  pub dimensions : job .d ≡ suc (suc n)
-  pub few : n ≤ 1
-  pub processors : s ^ suc n ≡ job .p
-  pub positive : zero < s
-  pub passed : Passed job
-  pub fits : Fits (job .extents) (diagonalCuts (job .d) s)
-  pub plan-is : plan ≡ diagonalPlan job s
 
 module _ (job : Job) (plan : Layout) where
   diagonal-told : diagonalAnswer job ≡ answered plan → DiagonalFor job plan
-  unfolding diagonalAnswer suits
+  unfolding diagonalAnswer
   diagonal-told e =
       let asked = answers-iff (diagonalChecks job) (diagonalPlan job s) plan .0 e in
       let pass = asked .0 in
       let passed = job-passes-iff job .0 (pass .0, (pass .1 .0, (pass .1 .1 .1 .0, (pass .1 .1 .1 .1 .0, tt)))) in
-      let suit = and-true-iff (between 2 3 (job .d)) (leb s (job .p)) .0 (not-false (suits (job .d) (job .p)) (pass .1 .1 .0)) in
-      let range = between-true-iff 2 3 (job .d) .0 (suit .0) in
-      let high : s ≤ job .p = leb-iff s (job .p) .0 (suit .1) in
-      let dimensions : job .d ≡ suc (suc (job .d - 2)) = omega (arith, range .0) in
+      let suit = suits-facts (job .d) (job .p) .0 (not-false (suits (job .d) (job .p)) (pass .1 .1 .0)) in
+      let dimensions : job .d ≡ suc (suc (job .d - 2)) = omega (arith, suit .low) in
       let low : zero < s = side-low (job .d) (job .p) in
       record {
         n = job .d - 2;
         s = s;
         dimensions = dimensions;
-        few = omega (arith, range .1);
+        few = omega (arith, suit .high);
         processors =
             subst⁻¹ (λ (d : ℕ). sideOf d (job .p) ^ suc (job .d - 2) ≡ job .p) dimensions
-            (side-power (job .d - 2) (job .p) (subst (λ (d : ℕ). sideOf d (job .p) ≤ job .p) dimensions high));
+            (side-power (job .d - 2) (job .p) (subst (λ (d : ℕ). sideOf d (job .p) ≤ job .p) dimensions (suit .side-high)));
         positive = low;
         passed = passed;
         fits =
@@ -64,24 +47,23 @@ module _ (job : Job) (plan : Layout) where
       s : ℕ
       s = sideOf (job .d) (job .p)
 
+  pub diagonal-suits : DiagonalFor job plan → suits (job .d) (job .p) ≡ true
+  diagonal-suits made =
+      subst⁻¹ (λ (d : ℕ). suits d (job .p) ≡ true) (made .dimensions)
+      (suits-of (made .n) (job .p) (made .s) (made .few) (made .passed .range .p-low) (made .processors))
+
   diagonal-of : DiagonalFor job plan → diagonalAnswer job ≡ answered plan
-  unfolding diagonalAnswer suits
+  unfolding diagonalAnswer
   diagonal-of made =
       let pass = job-passes-iff job .1 (made .passed) in
       let found : sideOf (job .d) (job .p) ≡ made .s =
       subst⁻¹ (λ (d : ℕ). sideOf d (job .p) ≡ made .s) (made .dimensions) (side-is (made .n) (job .p) (made .s) (made .passed .range .p-low) (made .processors)) in
-      let high : made .s ≤ job .p = subst (λ (m : ℕ). made .s ≤ m) (made .processors) (side-le (made .n) (made .s) (made .positive)) in
-      let suit : suits (job .d) (job .p) ≡ true =
-      and-true-iff (between 2 3 (job .d)) (leb (sideOf (job .d) (job .p)) (job .p)) .1 (
-        between-true-iff 2 3 (job .d) .1 (omega (arith, made .dimensions), omega (arith, made .dimensions, made .few)),
-        leb-iff (sideOf (job .d) (job .p)) (job .p) .1 (subst⁻¹ (λ (m : ℕ). m ≤ job .p) found high),
-      ) in
       let many : Fits (job .extents) (replicate (length (job .extents)) (made .s)) =
       subst⁻¹ (λ (m : ℕ). Fits (job .extents) (replicate m (made .s))) (made .passed .extents-many) (made .fits) in
       let fit : sideFits (sideOf (job .d) (job .p)) (job .extents) ≡ true =
       subst⁻¹ (λ (m : ℕ). sideFits m (job .extents) ≡ true) found (side-of-fits (made .s) (job .extents) many) in
       answers-iff (diagonalChecks job) (diagonalPlan job (sideOf (job .d) (job .p))) plan .1 (
-        (pass .0, (pass .1 .0, (ap not suit, (pass .1 .1 .0, (pass .1 .1 .1 .0, (ap not fit, tt)))))),
+        (pass .0, (pass .1 .0, (ap not (diagonal-suits made), (pass .1 .1 .0, (pass .1 .1 .1 .0, (ap not fit, tt)))))),
         ap (diagonalPlan job) found ∙ sym (made .plan-is),
       )
 

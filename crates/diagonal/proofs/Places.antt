@@ -30,26 +30,21 @@ entry-none s = ap (λ (n : ℕ). n % s) (omega arith) ∙ zero-mod s
 entry-one : (s : ℕ) → (1 + (s - 1) * 0) % s ≡ 1 % s
 entry-one s = ap (λ (n : ℕ). n % s) (omega arith)
 
-entry-last : (s : ℕ) → 1 ≤ s → (0 + (s - 1) * 1) % s ≡ s - 1
-entry-last s l =
-    let below : s - 1 < s = omega arith in
-    ap (λ (n : ℕ). n % s) (omega arith) ∙ mod-eq-of-lt below
-
-entry-reduced : (s : ℕ) → (0 + (s - 1) * 1) % s ≡ (s - 1) % s
-entry-reduced s = ap (λ (n : ℕ). n % s) (omega arith)
+entry-last : (s : ℕ) → (0 + (s - 1) * 1) % s ≡ (s - 1) % s
+entry-last s = ap (λ (n : ℕ). n % s) (omega arith)
 
 -- ---- the matrix
 
 -- "Row 1 is zero; row 2 is 1 p−1 for d = 2", reduced
 pub matrix-of-2 : (s : ℕ) → diagonalMatrix 2 s ≡ (0 ∷ 0 ∷ []) ∷ (1 % s ∷ (s - 1) % s ∷ []) ∷ []
 unfolding diagonalMatrix diagonalRows diagonalRow listOf same
-matrix-of-2 s = ap₂ (λ (one last : ℕ). (0 ∷ 0 ∷ []) ∷ (one ∷ last ∷ []) ∷ []) (entry-one s) (entry-reduced s)
+matrix-of-2 s = ap₂ (λ (one last : ℕ). (0 ∷ 0 ∷ []) ∷ (one ∷ last ∷ []) ∷ []) (entry-one s) (entry-last s)
 
 -- "for d = 3, row 2 is 1 0 s−1 and row 3 is 0 1 s−1", reduced
 pub matrix-of-3 : (s : ℕ) → diagonalMatrix 3 s ≡ (0 ∷ 0 ∷ 0 ∷ []) ∷ (1 % s ∷ 0 ∷ (s - 1) % s ∷ []) ∷ (0 ∷ 1 % s ∷ (s - 1) % s ∷ []) ∷ []
 unfolding diagonalMatrix diagonalRows diagonalRow listOf same
 matrix-of-3 s =
-    ap₂ (λ (one last : ℕ). rows ((0 + (s - 1) * 0) % s) one last) (entry-one s) (entry-reduced s)
+    ap₂ (λ (one last : ℕ). rows ((0 + (s - 1) * 0) % s) one last) (entry-one s) (entry-last s)
     ∙ ap (λ (none : ℕ). rows none (1 % s) ((s - 1) % s)) (entry-none s)
   where
     rows : ℕ → ℕ → ℕ → List (List ℕ)
@@ -57,23 +52,25 @@ matrix-of-3 s =
 
 -- the same in 25 places, the rows five apart
 
+abbrev placed : List (List ℕ) → List ℕ
+placed rows = take 25 (flat rows ++ replicate 25 0)
+
 abbrev pub rows2 : ℕ → ℕ → List ℕ
 rows2 one last = 0 ∷ 0 ∷ 0 ∷ 0 ∷ 0 ∷ one ∷ last ∷ 0 ∷ 0 ∷ 0 ∷ replicate 15 0
 
-abbrev rowsWith : ℕ → ℕ → ℕ → List ℕ
-rowsWith none one last = 0 ∷ 0 ∷ 0 ∷ 0 ∷ 0 ∷ one ∷ none ∷ last ∷ 0 ∷ 0 ∷ none ∷ one ∷ last ∷ 0 ∷ 0 ∷ replicate 10 0
-
 abbrev pub rows3 : ℕ → ℕ → List ℕ
-rows3 = rowsWith 0
+rows3 one last = 0 ∷ 0 ∷ 0 ∷ 0 ∷ 0 ∷ one ∷ 0 ∷ last ∷ 0 ∷ 0 ∷ 0 ∷ one ∷ last ∷ 0 ∷ 0 ∷ replicate 10 0
+
+last-reduced : (s : ℕ) → 1 ≤ s → (s - 1) % s ≡ s - 1
+last-reduced s l = let below : s - 1 < s = omega arith in mod-eq-of-lt below
 
 pub matrix-2 : (s : ℕ) → 1 ≤ s → rows2 (1 % s) (s - 1) ≡ take 25 (flat (diagonalMatrix 2 s) ++ replicate 25 0)
-unfolding flat diagonalMatrix diagonalRows diagonalRow listOf same
-matrix-2 s l = sym (ap₂ rows2 (entry-one s) (entry-last s l))
+unfolding flat
+matrix-2 s l = sym (ap placed (matrix-of-2 s) ∙ ap (rows2 (1 % s)) (last-reduced s l))
 
 pub matrix-3 : (s : ℕ) → 1 ≤ s → rows3 (1 % s) (s - 1) ≡ take 25 (flat (diagonalMatrix 3 s) ++ replicate 25 0)
-unfolding flat diagonalMatrix diagonalRows diagonalRow listOf same
-matrix-3 s l =
-    sym (ap₂ (rowsWith ((0 + (s - 1) * 0) % s)) (entry-one s) (entry-last s l) ∙ ap (λ (none : ℕ). rowsWith none (1 % s) (s - 1)) (entry-none s))
+unfolding flat
+matrix-3 s l = sym (ap placed (matrix-of-3 s) ∙ ap (rows3 (1 % s)) (last-reduced s l))
 
 -- ---- cuts and moduli
 

@@ -73,7 +73,7 @@ agree-number bases cs q h w l = go (ℕ-discrete (numberFrom 0 bases cs) q)
         ∙ sym (agree-no cs (digitsOf bases q) (inside-length bases cs w ∙ sym (length-digits bases q))
         (λ e. n (ap (numberFrom 0 bases) e ∙ number-of-digits bases q h l)))
 
-pub shifted-inside : (n s w : ℕ) (x : List ℕ) → zero < s → length x ≡ n → Inside (replicate n s) (shifted s w x)
+shifted-inside : (n s w : ℕ) (x : List ℕ) → zero < s → length x ≡ n → Inside (replicate n s) (shifted s w x)
 unfolding shifted Inside
 shifted-inside zero s w [] l e = tt
 shifted-inside zero s w (i ∷ x) l e = absurd (omega arith)

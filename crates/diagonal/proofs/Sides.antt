@@ -1,10 +1,10 @@
 -- The side of a diagonal layout: it is the s with s to the power d - 1 equal to p, and the test of the extents says whether its cuts fit.
 use mathlib.Core.Path.{_≡_, refl, sym, ap, _∙_, subst, subst⁻¹}
-use mathlib.Core.Logic.{_≢_, _↔_}
-use mathlib.Core.Bool.{true, false, cond}
+use mathlib.Core.Logic.{_≢_, _⊎_, inl, inr, ⊎-elim, _↔_}
+use mathlib.Core.Bool.{true, false}
 use mathlib.Core.List.{List, [], _∷_}
 use Prim.Native.Nat.{ℕ, zero, suc, _+_, _-_, _*_, _^_, _≤_, _<_}
-use native.Mathlib.Nat.{pow-lt-pow-left, pow-succ', pow-zero, mul-one, zero-mul, one-le-pow, le-mul-of-pos-right, mul-le-mul}
+use native.Mathlib.Nat.{pow-lt-pow-left, pow-succ', pow-zero, mul-one, zero-mul, one-le-pow, le-mul-of-pos-right, mul-le-mul, eq-or-lt-of-le}
 use native.Mathlib.Decide.{decLt}
 use native.Mathlib.Omega.{arith}
 use lib.Dec.{leb, eqb}
@@ -12,10 +12,10 @@ use lib.ListN.{length, getD, replicate, length-replicate, getD-replicate}
 use Rattle.multipartition.specs.Cuts.{Fits}
 use Rattle.multipartition.specs.Lists.{firstSuch}
 use Rattle.multipartition.specs.Plans.{between}
-use Rattle.multipartition.proofs.Tests.{and-true-iff, allBelow-true-iff, eqb-iff, leb-iff, between-true-iff, by-cond}
+use Rattle.multipartition.proofs.Tests.{and-iff, allBelow-true-iff, eqb-iff, leb-iff, between-true-iff, by-cond}
 use Rattle.multipartition.proofs.Fitting.{fits-le-extent}
 use Rattle.multipartition.proofs.Searches.{first-such-low, first-such-passes, first-such-only}
-use Rattle.diagonal.specs.Diagonal.{isSide, sideOf, suits, sideFits}
+use Rattle.diagonal.specs.Diagonal.{isSide, sideOf, suits, suitedSide, sideFits}
 
 -- ---- powers
 
@@ -69,29 +69,56 @@ module _ (n p : ℕ) where
 
 -- ---- where p and d suit the layout
 
--- the side, and p + 1 where they do not
-abbrev pub suitedSide : ℕ → ℕ → ℕ
-suitedSide d p = cond (suits d p) (sideOf d p) (p + 1)
+pub record Suited (d p : ℕ) : Type 0 where
+  pub low : 2 ≤ d
+  pub high : d ≤ 3
+  pub side-high : sideOf d p ≤ p
 
-suits-side : (d p : ℕ) → suits d p ≡ true → sideOf d p ≤ p
+pub suits-facts : (d p : ℕ) → (suits d p ≡ true) ↔ Suited d p
 unfolding suits
-suits-side d p e = leb-iff (sideOf d p) p .0 (and-true-iff (between 2 3 d) (leb (sideOf d p) p) .0 e .1)
+suits-facts d p =
+    let both = and-iff (between 2 3 d) (leb (sideOf d p) p) (between-true-iff 2 3 d) (leb-iff (sideOf d p) p) in (
+      (λ e. let h = both .0 e in record { low = h .0 .0; high = h .0 .1; side-high = h .1 }),
+      λ h. both .1 ((h .low, h .high), h .side-high),
+    )
 
-pub suits-high : (d p : ℕ) → suits d p ≡ true → d ≤ 3
-unfolding suits
-suits-high d p e = between-true-iff 2 3 d .0 (and-true-iff (between 2 3 d) (leb (sideOf d p) p) .0 e .0) .1
+-- for d = n + 2
+pub suits-of : (n p s : ℕ) → n ≤ 1 → zero < p → s ^ suc n ≡ p → suits (suc (suc n)) p ≡ true
+suits-of n p s few l e =
+    let low : zero < s = pow-positive n s (subst⁻¹ (λ (m : ℕ). zero < m) e l) in
+    suits-facts (suc (suc n)) p .1
+    (record {
+      low = omega arith;
+      high = omega arith;
+      side-high = subst⁻¹ (λ (m : ℕ). m ≤ p) (side-is n p s l e) (subst (λ (m : ℕ). s ≤ m) e (side-le n s low));
+    })
+
+-- "p or d doesn't suit the layout" unless d = 2, or "d = 3 and p = s·s"
+pub suits-iff : (d p : ℕ) → zero < p → (suits d p ≡ true) ↔ ((d ≡ 2) ⊎ ((d ≡ 3) × ((s : ℕ) × (p ≡ s * s))))
+suits-iff d p l = ((λ e. told (suits-facts d p .0 e)), ⊎-elim (λ two. of-2 two) (λ three. of-3 (three .0) (three .1 .0) (three .1 .1)))
+  where
+    told : Suited d p → (d ≡ 2) ⊎ ((d ≡ 3) × ((s : ℕ) × (p ≡ s * s)))
+    told h = ⊎-elim (λ (two : 2 ≡ d). inl (sym two)) (λ m. let three : d ≡ 3 = omega (arith, h .high) in inr (three, (sideOf d p, square-is three))) (eq-or-lt-of-le (h .low))
+      where
+        square-is : d ≡ 3 → p ≡ sideOf d p * sideOf d p
+        square-is three =
+            subst⁻¹ (λ (k : ℕ). p ≡ sideOf k p * sideOf k p) three
+            (sym (side-power 1 p (subst (λ (k : ℕ). sideOf k p ≤ p) three (h .side-high))) ∙ square (sideOf 3 p))
+
+    of-2 : d ≡ 2 → suits d p ≡ true
+    of-2 two = subst⁻¹ (λ (k : ℕ). suits k p ≡ true) two (suits-of 0 p p (omega arith) l (power-one p))
+
+    of-3 : d ≡ 3 → (s : ℕ) → p ≡ s * s → suits d p ≡ true
+    of-3 three s e = subst⁻¹ (λ (k : ℕ). suits k p ≡ true) three (suits-of 1 p s (omega arith) l (square s ∙ sym e))
+
+-- ---- the side that the code finds
 
 pub unsuited : (d p : ℕ) → (suits d p ≡ true → ⊥) → suitedSide d p ≡ p + 1
 unsuited d p h = by-cond (λ (m : ℕ). m ≡ p + 1) (suits d p) (sideOf d p) (p + 1) (λ e. absurd (h e)) (λ e. refl)
 
 -- for d = n + 2, which is 2 or 3
 suited-is : (n p s : ℕ) → n ≤ 1 → zero < p → s ^ suc n ≡ p → suitedSide (suc (suc n)) p ≡ s
-unfolding suits
-suited-is n p s few l e =
-    let found = side-is n p s l e in
-    let low : zero < s = pow-positive n s (subst⁻¹ (λ (m : ℕ). zero < m) e l) in
-    let high : sideOf (suc (suc n)) p ≤ p = subst⁻¹ (λ (m : ℕ). m ≤ p) found (subst (λ (m : ℕ). s ≤ m) e (side-le n s low)) in
-    rw (between-true-iff 2 3 (suc (suc n)) .1 (omega arith, omega arith), leb-iff (sideOf (suc (suc n)) p) p .1 high) found
+suited-is n p s few l e = rw (suits-of n p s few l e) (side-is n p s l e)
 
 -- p cuts each way for d = 2
 pub suited-2 : (p : ℕ) → zero < p → suitedSide 2 p ≡ p
@@ -100,7 +127,7 @@ suited-2 p l = suited-is 0 p p (omega arith) l (power-one p)
 -- what the side says
 pub suited-above : (d p : ℕ) → p < suitedSide d p → suits d p ≡ false
 suited-above d p =
-    by-cond (λ (m : ℕ). p < m → suits d p ≡ false) (suits d p) (sideOf d p) (p + 1) (λ e l. absurd (omega (arith, suits-side d p e))) (λ e l. e)
+    by-cond (λ (m : ℕ). p < m → suits d p ≡ false) (suits d p) (sideOf d p) (p + 1) (λ e l. absurd (omega (arith, suits-facts d p .0 e .side-high))) (λ e l. e)
 
 pub suited-within : (d p : ℕ) → suitedSide d p ≤ p → (suits d p ≡ true) × (suitedSide d p ≡ sideOf d p)
 suited-within d p =
@@ -125,7 +152,7 @@ root-found p s l e = sym (suited-is 1 p s (omega arith) l (square s ∙ e))
 -- s is the last number whose square is at most p
 pub root-none : (p s : ℕ) → s * s < p → p < (s + 1) * (s + 1) → p + 1 ≡ suitedSide 3 p
 root-none p s below above =
-    sym (unsuited 3 p (λ suit. not-root (sideOf 3 p) (sym (square (sideOf 3 p)) ∙ side-power 1 p (suits-side 3 p suit))))
+    sym (unsuited 3 p (λ suit. not-root (sideOf 3 p) (sym (square (sideOf 3 p)) ∙ side-power 1 p (suits-facts 3 p .0 suit .side-high))))
   where
     not-root : (i : ℕ) → i * i ≢ p
     not-root i e = go (decLt s i)

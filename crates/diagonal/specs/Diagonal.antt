@@ -1,17 +1,18 @@
 -- The diagonal layouts (document 02, request c; source document 001, section 2), for every number of dimensions at once: s slabs each way, and s to
 -- the power d - 1 processors.
-use mathlib.Core.Bool.{Bool, not, _&&_}
+use mathlib.Core.Bool.{Bool, cond, not, _&&_}
 use mathlib.Core.List.{List, [], _∷_}
-use Prim.Native.Nat.{ℕ, zero, suc, _+_, _-_, _*_, _%_, _^_}
+use mathlib.Core.Path.{_≡_}
+use Prim.Native.Nat.{ℕ, zero, suc, _+_, _-_, _*_, _%_, _^_, _≤_}
 use lib.Dec.{leb, eqb}
 use lib.ListN.{length, getD, replicate}
 use Rattle.numbers.specs.Sums.{same}
 use Rattle.multipartition.specs.Answers.{Answer, answered, Check, checked}
 use Rattle.multipartition.specs.Lists.{allBelow, firstSuch, listOf}
-use Rattle.multipartition.specs.Cuts.{costOf}
+use Rattle.multipartition.specs.Cuts.{Fits, costOf}
 use Rattle.multipartition.specs.Owners.{ownerAt}
 use Rattle.multipartition.specs.Plans.{Job, Layout, between}
-use Rattle.multipartition.specs.Jobs.{dimensionsCheck, processorsCheck, suitsCheck, lengthsCheck, extentsCheck}
+use Rattle.multipartition.specs.Jobs.{Passed, dimensionsCheck, processorsCheck, suitsCheck, lengthsCheck, extentsCheck}
 
 -- "For d = 2 there are p cuts each way", for d = 3 "s cuts each way"
 abbrev pub diagonalCuts : ℕ → ℕ → List ℕ
@@ -67,6 +68,10 @@ sideOf d p = firstSuch (isSide d p) 1 p
 unfoldable pub suits : ℕ → ℕ → Bool
 suits d p = between 2 3 d && leb (sideOf d p) p
 
+-- the side where they suit p and d, else p + 1
+abbrev pub suitedSide : ℕ → ℕ → ℕ
+suitedSide d p = cond (suits d p) (sideOf d p) (p + 1)
+
 -- no cut is above its extent
 unfoldable pub sideFits : ℕ → List ℕ → Bool
 sideFits s extents = allBelow (length extents) (λ k. leb s (getD extents k 0))
@@ -85,3 +90,19 @@ diagonalChecks job =
 -- the answer to a job: its diagonal plan
 unfoldable pub diagonalAnswer : Job → Answer Layout
 diagonalAnswer job = checked (diagonalChecks job) (answered (diagonalPlan job (sideOf (job .d) (job .p))))
+
+-- what it takes for a job to be answered, and with which plan
+pub record DiagonalFor (job : Job) (plan : Layout) : Type 0 where
+  -- d is 2 or 3
+  pub n : ℕ
+  pub few : n ≤ 1
+  pub dimensions : job .d ≡ suc (suc n)
+  -- p is s in two dimensions and "p = s·s" in three
+  pub s : ℕ
+  pub positive : 1 ≤ s
+  pub processors : s ^ suc n ≡ job .p
+  -- the lines 1 to 4 of the table pass
+  pub passed : Passed job
+  -- no cut is above its extent
+  pub fits : Fits (job .extents) (diagonalCuts (job .d) s)
+  pub plan-is : plan ≡ diagonalPlan job s

@@ -3,16 +3,15 @@ use layout::Plan;
 use planner::Planned;
 use planner::first_outside;
 use planner::refused;
-ghost use mathlib.Core.Bool.{cond};
 ghost use mathlib.Core.Path.{_≡_};
 ghost use mathlib.Core.List.{_++_, _∷_};
-ghost use Prim.Native.Nat.{_+_, _-_, _*_, _^_, _≤_};
+ghost use Prim.Native.Nat.{_-_, _*_, _^_, _≤_};
 ghost use lib.ListN.{length, replicate, take};
 ghost use Rattle.multipartition.specs.Cuts.{cutCost, costOf};
 ghost use Rattle.multipartition.specs.Plans.{jobWith};
 ghost use Rattle.layout.specs.Plans.{five, flat, planOf};
 ghost use Rattle.planner.specs.Planned.{plannedOf};
-ghost use Rattle.diagonal.specs.Diagonal.{diagonalCuts, diagonalMatrix, diagonalPlan, sideOf, suits, sideFits, diagonalAnswer};
+ghost use Rattle.diagonal.specs.Diagonal.{diagonalCuts, diagonalMatrix, diagonalPlan, suitedSide, sideFits, diagonalAnswer};
 
 // A number whose square is at most p, in steps of eight.
 fn root_by_eights(p: u32) -> u32
@@ -29,7 +28,7 @@ fn root_by_eights(p: u32) -> u32
 // The s with s * s = p; p + 1 if there is none.
 fn square_side(p: u32) -> u32
     requires { ⌜ (1 ≤ p) × (p ≤ 4096) ⌝ }
-    ensures { λ r. ⌜ r ≡ cond (suits 3 p) (sideOf 3 p) (p + 1) ⌝ }
+    ensures { λ r. ⌜ r ≡ suitedSide 3 p ⌝ }
 {
     let mut s = root_by_eights(p);
     while (s + 1) * (s + 1) <= p {
@@ -44,7 +43,7 @@ fn square_side(p: u32) -> u32
 // The side of the layout for p processors: p in two dimensions, the square root of p in three; p + 1 where p or d does not suit it.
 fn side_of(d: usize, p: u32) -> u32
     requires { ⌜ (2 ≤ d) × (1 ≤ p) × (p ≤ 4096) ⌝ }
-    ensures { λ r. ⌜ r ≡ cond (suits d p) (sideOf d p) (p + 1) ⌝ }
+    ensures { λ r. ⌜ r ≡ suitedSide d p ⌝ }
 {
     if d == 2 {
         return p;
@@ -86,7 +85,7 @@ fn cost_of(s: u32, weights: &[u32]) -> u64
     cost
 }
 
-// Two or three numbers, with zeros after them. They are named one by one: numbers that were copied as one part are slow to read soon after.
+// Two or three numbers, with zeros after them. They are named one by one: after a copy of the whole list, a single number of it takes long to read.
 fn padded(numbers: &[u32]) -> [u32; 5]
     requires { ⌜ (2 ≤ length (now numbers)) × (length (now numbers) ≤ 3) ⌝ }
     ensures { λ r. ⌜ r ≡ five (now (numbers .entry)) ⌝ }

@@ -1,8 +1,8 @@
 -- The answer by the checks that a call passes or fails; and what it says, in the words of document 02, request c: the hypercube's owners are
 -- processors, one bit apart or two at a common face.
 use mathlib.Core.Path.{_≡_, refl, sym, ap, _∙_, subst, subst₂}
-use mathlib.Core.Bool.{true, false}
-use mathlib.Core.Logic.{_↔_}
+use mathlib.Core.Bool.{Bool, true, false, not}
+use mathlib.Core.Logic.{inl, inr, _↔_}
 use mathlib.Core.List.{List, [], _∷_}
 use Prim.Native.Nat.{ℕ, zero, _+_, _*_, _%_, _^_, _≤_, _<_}
 use native.Mathlib.Nat.{one-le-pow}
@@ -13,8 +13,9 @@ use lib.ListN.{getD}
 use Rattle.multipartition.specs.Answers.{answered, refused}
 use Rattle.multipartition.specs.Tiles.{Inside, isInside}
 use Rattle.multipartition.specs.Rivals.{Face}
-use Rattle.multipartition.proofs.Tests.{between-true-iff}
-use Rattle.multipartition.proofs.Answers.{answers-iff}
+use Rattle.multipartition.specs.Plans.{between}
+use Rattle.multipartition.proofs.Tests.{between-true-iff, outsideRange, outside-range}
+use Rattle.multipartition.proofs.Answers.{FirstFails, checked-passed, checked-refused, answers-iff}
 use Rattle.multipartition.proofs.Tiles.{inside-of-test, test-of-inside}
 use Rattle.hypercube.specs.Hypercube.{gray, hypercubeCuts, hypercubeOwner, bitsApart, bitsAlong, exponentOf, hypercubeChecks, hypercubeAnswer}
 use Rattle.hypercube.proofs.Exponents.{powers-high, exponent-iff, side-test}
@@ -23,37 +24,47 @@ use Rattle.hypercube.proofs.Hypercube.{hypercube-owner-below, hypercube
 -- ---- the checks of the code, one after the other
 
 module _ (p : ℕ) (x : List ℕ) where
-  pub refused-below : p < 1 → hypercubeAnswer p x ≡ refused 2 0
+  first-fails : (number place : ℕ) → FirstFails (hypercubeChecks p x) number place → hypercubeAnswer p x ≡ refused number place
   unfolding hypercubeAnswer
-  refused-below l = rw (lt-leb 1 p l)
+  first-fails = checked-refused (hypercubeChecks p x) (answered (hypercubeOwner (exponentOf p) x))
 
-  module _ (low : 1 ≤ p) where
-    pub refused-above : 4096 < p → hypercubeAnswer p x ≡ refused 2 0
-    unfolding hypercubeAnswer
-    refused-above l = rw (le-leb 1 p low, lt-leb p 4096 l)
+  fails-2 : not (between 1 4096 p) ≡ outsideRange 1 4096 p
+  fails-2 = sym (outside-range 1 4096 p)
 
-    module _ (high : p ≤ 4096) (side : ℕ) (e : side ≡ 2 ^ exponentOf p) where
-      suits : leb (exponentOf p) 6 ≡ leb side 64
-      suits = side-test (exponentOf p) ∙ ap (λ (n : ℕ). leb n 64) (sym e)
+  pub refused-2 : outsideRange 1 4096 p ≡ true → hypercubeAnswer p x ≡ refused 2 0
+  refused-2 e = first-fails 2 0 (inl (fails-2 ∙ e, refl, refl))
 
-      pub refused-12 : 64 < side → hypercubeAnswer p x ≡ refused 12 0
-      unfolding hypercubeAnswer
-      refused-12 l = rw (le-leb 1 p low, le-leb p 4096 high, suits, lt-leb side 64 l)
+  module _ (p-in : outsideRange 1 4096 p ≡ false) (side : ℕ) (e : side ≡ 2 ^ exponentOf p) where
+    suits : leb (exponentOf p) 6 ≡ leb side 64
+    suits = side-test (exponentOf p) ∙ ap (λ (n : ℕ). leb n 64) (sym e)
 
-      module _ (small : side ≤ 64) where
-        pub refused-8 : isInside (side ∷ side ∷ side ∷ []) x ≡ false → hypercubeAnswer p x ≡ refused 8 0
-        unfolding hypercubeAnswer hypercubeCuts
-        refused-8 o = rw (le-leb 1 p low, le-leb p 4096 high, suits, le-leb side 64 small, sym e, o)
+    cuts-are : hypercubeCuts (exponentOf p) ≡ side ∷ side ∷ side ∷ []
+    unfolding hypercubeCuts
+    cuts-are = ap (λ (n : ℕ). n ∷ n ∷ n ∷ []) (sym e)
 
-        pub owned : isInside (side ∷ side ∷ side ∷ []) x ≡ true
-            → hypercubeAnswer p x ≡ answered (gray ((getD x 1 0 + getD x 2 0) % side) * side + gray ((getD x 0 0 + getD x 2 0) % side))
-        unfolding hypercubeAnswer hypercubeCuts hypercubeOwner
-        owned i = rw (le-leb 1 p low, le-leb p 4096 high, suits, le-leb side 64 small, sym e, i)
+    pub refused-12 : 64 < side → hypercubeAnswer p x ≡ refused 12 0
+    refused-12 l = first-fails 12 0 (inr (fails-2 ∙ p-in, inl (ap not (suits ∙ lt-leb side 64 l), refl, refl)))
+
+    module _ (small : side ≤ 64) where
+      suits-pass : not (leb (exponentOf p) 6) ≡ false
+      suits-pass = ap not (suits ∙ le-leb side 64 small)
+
+      inside-is : (b : Bool) → isInside (side ∷ side ∷ side ∷ []) x ≡ b → not (isInside (hypercubeCuts (exponentOf p)) x) ≡ not b
+      inside-is b i = ap not (ap (λ (cuts : List ℕ). isInside cuts x) cuts-are ∙ i)
+
+      pub refused-8 : isInside (side ∷ side ∷ side ∷ []) x ≡ false → hypercubeAnswer p x ≡ refused 8 0
+      refused-8 o = first-fails 8 0 (inr (fails-2 ∙ p-in, inr (suits-pass, inl (inside-is false o, refl, refl))))
+
+      pub owned : isInside (side ∷ side ∷ side ∷ []) x ≡ true
+          → hypercubeAnswer p x ≡ answered (gray ((getD x 1 0 + getD x 2 0) % side) * side + gray ((getD x 0 0 + getD x 2 0) % side))
+      unfolding hypercubeAnswer hypercubeOwner
+      owned i =
+          checked-passed (hypercubeChecks p x) (answered (hypercubeOwner (exponentOf p) x)) (fails-2 ∙ p-in, (suits-pass, (inside-is true i, tt)))
+          ∙ ap (λ (n : ℕ). answered (gray ((getD x 1 0 + getD x 2 0) % n) * n + gray ((getD x 0 0 + getD x 2 0) % n))) (sym e)
 
 -- ---- what an answer says
 
 module _ (p : ℕ) where
-  -- what an answer says
   hypercube-told : (x : List ℕ) (q : ℕ) → hypercubeAnswer p x ≡ answered q
       → (exponentOf p ≤ 6) × (4 ^ exponentOf p ≡ p) × Inside (hypercubeCuts (exponentOf p)) x × (hypercubeOwner (exponentOf p) x ≡ q)
   unfolding hypercubeAnswer
@@ -67,7 +78,7 @@ module _ (p : ℕ) where
       )
 
   -- the owner of any position inside, where p is 4 to the power e
-  pub hypercube-of : (e : ℕ) (x : List ℕ) → e ≤ 6 → 4 ^ e ≡ p → Inside (hypercubeCuts e) x → hypercubeAnswer p x ≡ answered (hypercubeOwner e x)
+  hypercube-of : (e : ℕ) (x : List ℕ) → e ≤ 6 → 4 ^ e ≡ p → Inside (hypercubeCuts e) x → hypercubeAnswer p x ≡ answered (hypercubeOwner e x)
   unfolding hypercubeAnswer
   hypercube-of e x small q w =
       let found : exponentOf p ≡ e = exponent-iff p e small .1 q in

@@ -1,16 +1,17 @@
 -- The exponent of a number of processors: 4 to its power is p, the search for it goes from number to number, and the side says whether there is one.
 use mathlib.Core.Path.{_≡_, refl, sym, ap, _∙_, subst}
 use mathlib.Core.Logic.{_≢_, _↔_}
-use mathlib.Core.Bool.{Bool}
+use mathlib.Core.Bool.{true}
 use Prim.Native.Nat.{ℕ, zero, suc, _+_, _*_, _-_, _^_, _≤_, _<_}
 use native.Mathlib.Nat.{pow-le-pow-right, pow-suc, pow-succ', one-le-pow}
 use native.Mathlib.Decide.{decLe, decLt}
 use native.Mathlib.Omega.{arith}
-use borrow.Author.Tests.{eqb-true, eq-eqb, ne-eqb, le-leb, lt-leb}
-use lib.Dec.{leb, eqb}
+use borrow.Author.Tests.{ne-eqb, le-leb, lt-leb}
+use lib.Dec.{leb}
 use Rattle.multipartition.specs.Lists.{firstSuch}
-use Rattle.multipartition.proofs.Searches.{first-such-passes, first-such-only}
-use Rattle.hypercube.specs.Hypercube.{exponentOf}
+use Rattle.multipartition.proofs.Searches.{first-such-next, first-such-passes, first-such-only}
+use Rattle.multipartition.proofs.Tests.{eqb-iff}
+use Rattle.hypercube.specs.Hypercube.{isExponent, exponentOf}
 
 -- ---- powers of 4 and of 2
 
@@ -23,8 +24,8 @@ powers-high e h =
     let four : zero < 4 = omega arith in
     (pow-le-pow-right four h, pow-le-pow-right two h)
 
-rises : (a b : ℕ) → a < b → 4 ^ a < 4 ^ b
-rises a b l =
+four-rises : (a b : ℕ) → a < b → 4 ^ a < 4 ^ b
+four-rises a b l =
     let four : zero < 4 = omega arith in
     omega (arith, pow-succ' 4 a, one-le-pow a 4 four, pow-le-pow-right four l)
 
@@ -32,39 +33,40 @@ four-injective : (a b : ℕ) → 4 ^ a ≡ 4 ^ b → a ≡ b
 four-injective a b e = go (decLt a b) (decLt b a)
   where
     go : Dec (a < b) → Dec (b < a) → a ≡ b
-    go (yes l) m = absurd (omega (arith, rises a b l, e))
-    go (no l) (yes m) = absurd (omega (arith, rises b a m, e))
+    go (yes l) m = absurd (omega (arith, four-rises a b l, e))
+    go (no l) (yes m) = absurd (omega (arith, four-rises b a m, e))
     go (no l) (no m) = omega arith
 
 -- ---- the exponent
 
 module _ (p : ℕ) where
-  abbrev test : ℕ → Bool
-  test e = eqb (4 ^ e) p
+  is-exponent-iff : (e : ℕ) → (isExponent p e ≡ true) ↔ (4 ^ e ≡ p)
+  unfolding isExponent
+  is-exponent-iff e = eqb-iff (4 ^ e) p
 
   pub exponent-iff : (e : ℕ) → e ≤ 6 → (exponentOf p ≡ e) ↔ (4 ^ e ≡ p)
   unfolding exponentOf
   exponent-iff e h = (
-    λ q. let below : firstSuch test 0 7 < 0 + 7 = omega (arith, q) in eqb-true (4 ^ e) p (ap test (sym q) ∙ first-such-passes test 0 7 below),
-    λ q. first-such-only test 0 7 e (λ i f. four-injective i e (eqb-true (4 ^ i) p f ∙ sym q)) (omega arith) (omega arith) (eq-eqb (4 ^ e) p q),
+    λ q. let below : firstSuch (isExponent p) 0 7 < 0 + 7 = omega (arith, q) in
+        is-exponent-iff e .0 (ap (isExponent p) (sym q) ∙ first-such-passes (isExponent p) 0 7 below),
+    λ q. first-such-only (isExponent p) 0 7 e (λ i f. four-injective i e (is-exponent-iff i .0 f ∙ sym q)) (omega arith) (omega arith) (is-exponent-iff e .1 q),
   )
 
   -- ---- the search, number by number
 
   -- the exponent is found from e on
   abbrev pub From : ℕ → Type 0
-  From e = exponentOf p ≡ firstSuch test e (7 - e)
+  From e = exponentOf p ≡ firstSuch (isExponent p) e (7 - e)
 
   pub from-start : From 0
   unfolding exponentOf
   from-start = refl
 
   pub from-next : (e : ℕ) → e < 7 → 4 ^ e ≢ p → From e → From (e + 1)
-  unfolding firstSuch
+  unfolding isExponent
   from-next e l n h =
-      let left : 7 - e ≡ suc (7 - suc e) = omega arith in
-      let next : e + 1 ≡ suc e = omega arith in
-      h ∙ ap (firstSuch test e) left ∙ rw (ne-eqb (4 ^ e) p n, next)
+      let left : 7 - e ≡ suc (7 - (e + 1)) = omega arith in
+      h ∙ ap (firstSuch (isExponent p) e) left ∙ first-such-next (isExponent p) e (7 - (e + 1)) (ne-eqb (4 ^ e) p n)
 
   pub from-end : (e : ℕ) → e ≡ 7 → From e → exponentOf p ≡ e
   unfolding firstSuch

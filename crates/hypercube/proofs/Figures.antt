@@ -5,7 +5,7 @@ use Prim.Native.Nat.{ℕ}
 use Rattle.multipartition.specs.Answers.{Answer, answered, refused}
 use Rattle.multipartition.specs.Lists.{firstSuch}
 use Rattle.multipartition.specs.Tiles.{isInside}
-use Rattle.hypercube.specs.Hypercube.{gray, hypercubeCuts, hypercubeOwner, exponentOf, hypercubeAnswer}
+use Rattle.hypercube.specs.Hypercube.{gray, hypercubeCuts, hypercubeOwner, isExponent, exponentOf, hypercubeAnswer}
 
 pub record Question : Type 0 where
   pub p : ℕ
@@ -46,5 +46,5 @@ pub figures : map answerTo questions
     ∷ refused 8 0
     ∷ refused 8 0
     ∷ []
-unfolding hypercubeAnswer exponentOf firstSuch hypercubeCuts hypercubeOwner gray isInside
+unfolding hypercubeAnswer exponentOf isExponent firstSuch hypercubeCuts hypercubeOwner gray isInside
 figures = refl

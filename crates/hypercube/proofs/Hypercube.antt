@@ -49,8 +49,8 @@ owners-apart e x y =
 stays : (e m n : ℕ) → m ≡ n → bitsApart (gray (m % 2 ^ e)) (gray (n % 2 ^ e)) ≡ 0
 stays e m n q = ap (λ (k : ℕ). bitsApart (gray (m % 2 ^ e)) (gray (k % 2 ^ e))) (sym q) ∙ apart-self (gray (m % 2 ^ e))
 
-rises : (e m n : ℕ) → 1 ≤ e → e ≤ 6 → n ≡ suc m → bitsApart (gray (m % 2 ^ e)) (gray (n % 2 ^ e)) ≡ 1
-rises e m n low high q =
+code-moves : (e m n : ℕ) → 1 ≤ e → e ≤ 6 → n ≡ suc m → bitsApart (gray (m % 2 ^ e)) (gray (n % 2 ^ e)) ≡ 1
+code-moves e m n low high q =
     ap (λ (k : ℕ). bitsApart (gray (m % 2 ^ e)) (gray k)) (ap (λ (k : ℕ). k % 2 ^ e) q ∙ next) ∙ gray-next e (m % 2 ^ e) low high (mod-lt m (pow-pos e))
   where
     next : suc m % 2 ^ e ≡ suc (m % 2 ^ e) % 2 ^ e
@@ -74,21 +74,21 @@ unfolding hypercubeCuts bitsAlong
 face-up e high x y w zero h q =
     owners-apart e x y
     ∙ ap₂ _+_ (stays e (getD x 1 0 + getD x 2 0) (getD y 1 0 + getD y 2 0) (ap₂ _+_ (h 1 (λ f. absurd (omega arith))) (h 2 (λ f. absurd (omega arith)))))
-    (rises e (getD x 0 0 + getD x 2 0) (getD y 0 0 + getD y 2 0) deep high (omega (arith, h 2 (λ f. absurd (omega arith)))))
+    (code-moves e (getD x 0 0 + getD x 2 0) (getD y 0 0 + getD y 2 0) deep high (omega (arith, h 2 (λ f. absurd (omega arith)))))
   where
     deep : 1 ≤ e
     deep = cut-deep e (getD x 0 0) (subst (λ (n : ℕ). n < 2 ^ e) q (inside-below (hypercubeCuts e) y w 0 (omega arith)))
 face-up e high x y w (suc zero) h q =
     owners-apart e x y
-    ∙ ap₂ _+_ (rises e (getD x 1 0 + getD x 2 0) (getD y 1 0 + getD y 2 0) deep high (omega (arith, h 2 (λ f. absurd (omega arith)))))
+    ∙ ap₂ _+_ (code-moves e (getD x 1 0 + getD x 2 0) (getD y 1 0 + getD y 2 0) deep high (omega (arith, h 2 (λ f. absurd (omega arith)))))
     (stays e (getD x 0 0 + getD x 2 0) (getD y 0 0 + getD y 2 0) (ap₂ _+_ (h 0 (λ f. absurd (omega arith))) (h 2 (λ f. absurd (omega arith)))))
   where
     deep : 1 ≤ e
     deep = cut-deep e (getD x 1 0) (subst (λ (n : ℕ). n < 2 ^ e) q (inside-below (hypercubeCuts e) y w 1 (omega arith)))
 face-up e high x y w (suc (suc zero)) h q =
     owners-apart e x y
-    ∙ ap₂ _+_ (rises e (getD x 1 0 + getD x 2 0) (getD y 1 0 + getD y 2 0) deep high (omega (arith, h 1 (λ f. absurd (omega arith)))))
-    (rises e (getD x 0 0 + getD x 2 0) (getD y 0 0 + getD y 2 0) deep high (omega (arith, h 0 (λ f. absurd (omega arith)))))
+    ∙ ap₂ _+_ (code-moves e (getD x 1 0 + getD x 2 0) (getD y 1 0 + getD y 2 0) deep high (omega (arith, h 1 (λ f. absurd (omega arith)))))
+    (code-moves e (getD x 0 0 + getD x 2 0) (getD y 0 0 + getD y 2 0) deep high (omega (arith, h 0 (λ f. absurd (omega arith)))))
   where
     deep : 1 ≤ e
     deep = cut-deep e (getD x 2 0) (subst (λ (n : ℕ). n < 2 ^ e) q (inside-below (hypercubeCuts e) y w 2 (omega arith)))

@@ -1,4 +1,5 @@
 -- The hypercube layout (document 02, request c). A position's places are counted from 0: i1 stands at place 0.
+use mathlib.Core.Bool.{Bool}
 use mathlib.Core.List.{List, [], _∷_}
 use Prim.Native.Nat.{ℕ, zero, suc, _+_, _*_, _/_, _%_, _^_}
 use lib.Bits.{bitXor}
@@ -47,9 +48,13 @@ bitsAlong (suc (suc k)) = 2
 
 -- ---- "a separate owner question on p and a position"
 
--- "p = 4 to the power e with e from 0 to 6": that e, and 7 where there is none
+-- "p = 4 to the power e"
+unfoldable pub isExponent : ℕ → ℕ → Bool
+isExponent p e = eqb (4 ^ e) p
+
+-- that e, "from 0 to 6", and 7 where there is none
 unfoldable pub exponentOf : ℕ → ℕ
-exponentOf p = firstSuch (λ e. eqb (4 ^ e) p) 0 7
+exponentOf p = firstSuch (isExponent p) 0 7
 
 -- "New numbers: 12, p or d doesn't suit the layout, after 2 and before 3": 2, then 12, then 8
 abbrev pub hypercubeChecks : ℕ → List ℕ → List Check

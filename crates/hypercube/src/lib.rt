@@ -54,13 +54,7 @@ fn owner_number(side: u32, i1: u32, i2: u32, i3: u32) -> u32
 pub fn hypercube_owner(p: u32, position: &[u32]) -> Owner
     ensures { λ r. ⌜ toldOwner r ≡ hypercubeAnswer p (now (position .entry)) ⌝ }
 {
-    if p < 1 {
-        return Owner::Refused {
-            number: 2,
-            place: 0,
-        };
-    }
-    if 4096 < p {
+    if (p < 1) | (4096 < p) {
         return Owner::Refused {
             number: 2,
             place: 0,

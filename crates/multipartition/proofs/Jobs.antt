@@ -2,7 +2,7 @@
 -- that is answered is in shape.
 use mathlib.Core.Path.{_≡_, refl, sym, ap, _∙_, subst, subst⁻¹}
 use mathlib.Core.Logic.{_↔_}
-use mathlib.Core.Bool.{Bool, true, false, not, cond, _||_}
+use mathlib.Core.Bool.{Bool, true, false, not, cond}
 use mathlib.Core.List.{List, [], _∷_}
 use mathlib.Core.Option.{Option, none, some}
 use Prim.Native.Nat.{ℕ, zero, suc, _+_, _≤_, _<_}
@@ -18,7 +18,7 @@ use Rattle.multipartition.specs.Jobs.{Passed, PlanFor, firstOutside, job
 use Rattle.multipartition.proofs.Answers.{AllPass, Small, checked-passed, checked-answered, checked-small}
 use Rattle.multipartition.proofs.Chosen.{none-chosen, chosen-fits, chosen-even}
 use Rattle.multipartition.proofs.Plans.{layout-in-shape}
-use Rattle.multipartition.proofs.Tests.{by-cond, between-true-iff}
+use Rattle.multipartition.proofs.Tests.{or-false, by-cond, between-true-iff}
 
 -- ---- the checks
 
@@ -44,10 +44,6 @@ unfolding firstOutside Extent
 firstOutside-of-extents i [] h = refl
 firstOutside-of-extents i (n ∷ extents) h =
     rw (between-true-iff 1 1000000 n .1 (h 0 (zero-lt-suc (length extents)))) (firstOutside-of-extents (suc i) extents (λ k l. h (suc k) (omega arith)))
-
-pub or-false : (s t : Bool) → s || t ≡ false → (s ≡ false) × (t ≡ false)
-or-false true t e = let clash : _≡_ {A = ℕ} 0 1 = cc in absurd (omega arith)
-or-false false t e = (refl, e)
 
 -- the first such dimension is one of them
 pub first-outside-le : (k : ℕ) (extents : List ℕ) → firstOutside k extents ≤ k + length extents

@@ -4,9 +4,15 @@ use mathlib.Core.Logic.{⊎-elim}
 use mathlib.Core.Bool.{Bool, true, false, cond}
 use Prim.Native.Nat.{ℕ, zero, suc, _+_, _≤_, _<_}
 use native.Mathlib.Nat.{le-refl, eq-or-lt-of-le}
+use native.Mathlib.Numerals.{add-one}
 use native.Mathlib.Omega.{arith}
 use Rattle.multipartition.specs.Lists.{firstSuch}
 use Rattle.multipartition.proofs.Tests.{false-not-true}
+
+-- a number that does not pass is passed over
+pub first-such-next : (test : ℕ → Bool) (from count : ℕ) → test from ≡ false → firstSuch test from (suc count) ≡ firstSuch test (from + 1) count
+unfolding firstSuch
+first-such-next test from count e = rw (e, add-one from)
 
 pub first-such-low : (test : ℕ → Bool) (from count : ℕ) → from ≤ firstSuch test from count
 unfolding firstSuch

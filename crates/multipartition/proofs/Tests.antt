@@ -1,11 +1,12 @@
 -- Tests put together: what `&&`, `||` and `allBelow` decide.
-use mathlib.Core.Path.{_≡_, refl, subst⁻¹}
+use mathlib.Core.Path.{_≡_, refl, sym, subst⁻¹}
 use mathlib.Core.Logic.{_⊎_, inl, inr, ⊎-elim, _↔_}
-use mathlib.Core.Bool.{Bool, true, false, cond, _&&_, _||_}
+use mathlib.Core.Bool.{Bool, true, false, cond, not, _&&_, _||_}
 use Prim.Native.Nat.{ℕ, zero, suc, _≤_, _<_}
 use native.Mathlib.Nat.{not-suc-le-zero, le-of-suc-le-suc, le-refl, eq-or-lt-of-le}
+use native.Mathlib.Decide.{decLe}
 use native.Mathlib.Omega.{arith}
-use borrow.Author.Tests.{leb-true, ltb-true, eqb-true, le-leb, lt-ltb, eq-eqb}
+use borrow.Author.Tests.{leb-true, ltb-true, ltb-false, eqb-true, le-leb, lt-leb, lt-ltb, le-ltb, eq-eqb}
 use lib.Dec.{leb, ltb, eqb}
 use Rattle.multipartition.specs.Lists.{allBelow}
 use Rattle.multipartition.specs.Plans.{between}
@@ -20,6 +21,10 @@ and-true-iff false t = ((λ e. absurd (false-not-true e)), λ h. h .0)
 pub or-true-iff : (s t : Bool) → (s || t ≡ true) ↔ ((s ≡ true) ⊎ (t ≡ true))
 or-true-iff true t = ((λ e. inl refl), λ h. refl)
 or-true-iff false t = (inr, ⊎-elim (λ e. absurd (false-not-true e)) (λ e. e))
+
+pub or-false : (s t : Bool) → s || t ≡ false → (s ≡ false) × (t ≡ false)
+or-false true t e = absurd (false-not-true (sym e))
+or-false false t e = (refl, e)
 
 pub allBelow-true-iff : (n : ℕ) (test : ℕ → Bool) → (allBelow n test ≡ true) ↔ ((k : ℕ) → k < n → test k ≡ true)
 unfolding allBelow
@@ -62,3 +67,25 @@ between-true-iff low high n = and-iff (leb low n) (leb n high) (leb-iff low n) (
 pub by-cond {ℓ} : {A : Type ℓ} (P : A → Type 0) (t : Bool) (x y : A) → (t ≡ true → P x) → (t ≡ false → P y) → P (cond t x y)
 by-cond P true x y f g = f refl
 by-cond P false x y f g = g refl
+
+-- ---- ranges, as the code tests them
+
+-- out of a range
+abbrev pub outsideRange : ℕ → ℕ → ℕ → Bool
+outsideRange low high n = ltb n low || ltb high n
+
+pub outside-range : (low high n : ℕ) → outsideRange low high n ≡ not (between low high n)
+outside-range low high n = go (decLe low n) (decLe n high)
+  where
+    go : Dec (low ≤ n) → Dec (n ≤ high) → outsideRange low high n ≡ not (leb low n && leb n high)
+    go (yes a) (yes b) = rw (le-ltb n low a, le-ltb high n b, le-leb low n a, le-leb n high b)
+    go (yes a) (no b) =
+        let m : high < n = omega arith in
+        rw (le-ltb n low a, lt-ltb high n m, le-leb low n a, lt-leb n high m)
+    go (no a) b = let m : n < low = omega arith in rw (lt-ltb n low m, lt-leb low n m)
+
+-- a number that is not out of a range
+pub in-range-of-test : (low high n : ℕ) → outsideRange low high n ≡ false → (low ≤ n) × (n ≤ high)
+in-range-of-test low high n e =
+    let both = or-false (ltb n low) (ltb high n) e in
+    (ltb-false n low (both .0), ltb-false high n (both .1))

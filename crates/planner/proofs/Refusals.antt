@@ -1,39 +1,18 @@
 -- The lines 1 to 4 of the table, one after the other, by the tests of the code.
 use mathlib.Core.Path.{_≡_, refl, sym, ap, _∙_}
-use mathlib.Core.Bool.{Bool, true, false, not, _&&_, _||_}
+use mathlib.Core.Bool.{Bool, true, false, not, _||_}
 use mathlib.Core.List.{List}
 use mathlib.Core.Logic.{inl, inr}
-use Prim.Native.Nat.{ℕ, _≤_, _<_}
-use native.Mathlib.Decide.{decLe}
-use native.Mathlib.Omega.{arith}
-use borrow.Author.Tests.{lt-ltb, le-ltb, le-leb, lt-leb, ne-eqb, eq-eqb, eqb-true, ltb-false, not-false}
-use lib.Dec.{leb, ltb, eqb}
+use Prim.Native.Nat.{ℕ}
+use borrow.Author.Tests.{ne-eqb, eq-eqb, eqb-true, not-false}
+use lib.Dec.{eqb}
 use lib.ListN.{length}
 use Rattle.multipartition.specs.Answers.{refused}
 use Rattle.multipartition.specs.Plans.{Job, between}
 use Rattle.multipartition.specs.Jobs.{Passed, firstOutside, jobChecks, cheapestFor, planWith, planAnswer}
 use Rattle.multipartition.proofs.Answers.{FirstFails, checked-refused}
-use Rattle.multipartition.proofs.Jobs.{job-passes-iff, or-false}
-
--- out of a range
-abbrev pub outsideRange : ℕ → ℕ → ℕ → Bool
-outsideRange low high n = ltb n low || ltb high n
-
-pub outside-range : (low high n : ℕ) → outsideRange low high n ≡ not (between low high n)
-outside-range low high n = go (decLe low n) (decLe n high)
-  where
-    go : Dec (low ≤ n) → Dec (n ≤ high) → outsideRange low high n ≡ not (leb low n && leb n high)
-    go (yes a) (yes b) = rw (le-ltb n low a, le-ltb high n b, le-leb low n a, le-leb n high b)
-    go (yes a) (no b) =
-        let m : high < n = omega arith in
-        rw (le-ltb n low a, lt-ltb high n m, le-leb low n a, lt-leb n high m)
-    go (no a) b = let m : n < low = omega arith in rw (lt-ltb n low m, lt-leb low n m)
-
--- a number that is not out of a range
-pub in-range-of-test : (low high n : ℕ) → outsideRange low high n ≡ false → (low ≤ n) × (n ≤ high)
-in-range-of-test low high n e =
-    let both = or-false (ltb n low) (ltb high n) e in
-    (ltb-false n low (both .0), ltb-false high n (both .1))
+use Rattle.multipartition.proofs.Jobs.{job-passes-iff}
+use Rattle.multipartition.proofs.Tests.{or-false, outsideRange, outside-range}
 
 -- two lists of d numbers
 abbrev pub otherLengths : ℕ → List ℕ → List ℕ → Bool
@@ -49,10 +28,10 @@ module _ (job : Job) where
   unfolding planAnswer
   first-fails = checked-refused (jobChecks job) (planWith job (cheapestFor job))
 
-  fails-1 : not (between 2 5 (job .d)) ≡ outsideRange 2 5 (job .d)
+  pub fails-1 : not (between 2 5 (job .d)) ≡ outsideRange 2 5 (job .d)
   fails-1 = sym (outside-range 2 5 (job .d))
 
-  fails-2 : not (between 1 4096 (job .p)) ≡ outsideRange 1 4096 (job .p)
+  pub fails-2 : not (between 1 4096 (job .p)) ≡ outsideRange 1 4096 (job .p)
   fails-2 = sym (outside-range 1 4096 (job .p))
 
   pub refused-1 : outsideRange 2 5 (job .d) ≡ true → planAnswer job ≡ refused 1 0

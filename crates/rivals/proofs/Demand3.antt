@@ -17,13 +17,13 @@ use Rattle.multipartition.specs.Tiles.{Inside}
 use Rattle.multipartition.proofs.Chosen.{balanced-iff-chosen, chosen-fits, chosen-length, chosen-even, chosen-minimal, chosen-no-dearer}
 use Rattle.multipartition.proofs.Faces.{faces-differ}
 use Rattle.multipartition.proofs.Jobs.{plan-answered, plan-in-shape, plan-of-passed}
-use Rattle.multipartition.proofs.Owners.{even-owners, share-exact}
+use Rattle.multipartition.proofs.Owners.{even-owners}
 use Rattle.layout.specs.declared.Plan.{Plan}
 use Rattle.layout.specs.Plans.{layoutOf, planOf}
 use Rattle.layout.proofs.Plans.{layout-of-plan, layout-with-sized}
 use Rattle.planner.specs.Planned.{plannedOf}
 use Rattle.rivals.specs.Demand3.{cutsOf, ownerIn, EvenPlan, Ours, Demand3}
-use Rattle.rivals.proofs.EvenPlans.{ownerBy, owner-by, even-plan}
+use Rattle.rivals.proofs.EvenPlans.{ownerOver, owner-by, even-plan}
 
 module _ (job : Job) (plan : Plan) (e : planAnswer job ≡ answered (layoutOf plan)) where
   made : PlanFor job (layoutOf plan)
@@ -39,13 +39,6 @@ module _ (job : Job) (plan : Plan) (e : planAnswer job ≡ answered (layoutOf pl
   unfolding layoutOf
   cost-is = ap (λ (l : Layout). l .cost) (made .plan-is)
 
-  d-is : plan .d ≡ length (cutsOf plan)
-  unfolding layoutOf
-  d-is =
-      ap (λ (l : Layout). l .d) (made .plan-is)
-      ∙ sym (made .passed .extents-many)
-      ∙ sym (chosen-length job (cutsOf plan) (made .cuts-are))
-
   held-job : jobOf (layoutOf plan) ≡ job
   held-job = ap jobOf (made .plan-is)
 
@@ -53,7 +46,7 @@ module _ (job : Job) (plan : Plan) (e : planAnswer job ≡ answered (layoutOf pl
   shaped = plan-in-shape job (layoutOf plan) e
 
   -- the owners by moduli and matrix are the paper's
-  owners-are : ownerBy plan ≡ ownerOf (job .p) (cutsOf plan)
+  owners-are : ownerOver plan ≡ ownerOf (job .p) (cutsOf plan)
   unfolding ownerOf
   owners-are = ap (λ (l : Layout). ownerAt (l .moduli) (l .matrix)) (made .plan-is)
 
@@ -65,10 +58,10 @@ module _ (job : Job) (plan : Plan) (e : planAnswer job ≡ answered (layoutOf pl
   ours = record {
     kind-is = ap (λ (l : Layout). l .kind) (made .plan-is);
     even =
-        even-plan job plan held-job shaped d-is (chosen-fits job (cutsOf plan) (made .cuts-are))
+        even-plan job plan held-job shaped (chosen-fits job (cutsOf plan) (made .cuts-are))
         (λ k s q l m o.
         ap (λ (own : List ℕ → ℕ). held (cutsOf plan) own k s q) owners-are ∙ even-owners (job .p) (cutsOf plan) some-processor cuts-even k s q l m o)
-        (share-exact (job .p) (cutsOf plan) cuts-even) cost-is;
+        cost-is;
     cheapest-of-all = λ rival balanced.
         subst⁻¹ (λ (n : ℕ). n ≤ costOf (job .weights) (rival .cuts)) cost-is (chosen-no-dearer job (cutsOf plan) (made .cuts-are) some-processor rival balanced);
     faces-differ = λ x y w v face same-owner.

@@ -1,10 +1,8 @@
 -- Diagonal plans: they are even, and so each is a rival of demand 3, which the planner's plan of the same job does not cost more than.
 use mathlib.Core.Bool.{true}
 use mathlib.Core.List.{List, [], _∷_}
-use mathlib.Core.Logic.{_⊎_, inl, inr}
 use mathlib.Core.Path.{_≡_, refl, sym, ap, ap₂, _∙_, subst, subst⁻¹}
-use Prim.Native.Nat.{ℕ, zero, suc, _+_, _*_, _/_, _^_, _≤_, _<_, _∣_}
-use native.Mathlib.Nat.{dvd-refl}
+use Prim.Native.Nat.{ℕ, suc, _+_, _*_, _/_, _^_, _≤_, _<_}
 use native.Mathlib.Omega.{arith}
 use lib.ListN.{length, getD, length-replicate, getD-replicate}
 use Rattle.numbers.specs.Products.{product}
@@ -20,15 +18,14 @@ use Rattle.layout.specs.declared.Plan.{Plan}
 use Rattle.layout.specs.Plans.{layoutOf, planOf}
 use Rattle.layout.proofs.Plans.{layout-of-plan}
 use Rattle.planner.specs.Planned.{plannedOf}
-use Rattle.diagonal.specs.Diagonal.{diagonalCuts, diagonalModuli, diagonalMatrix, diagonalOwner, diagonalAnswer}
-use Rattle.diagonal.proofs.Answers.{DiagonalFor, diagonal-answered, diagonal-answer-in-shape, diagonal-answer-sized, diagonal-small}
+use Rattle.diagonal.specs.Diagonal.{diagonalCuts, diagonalModuli, diagonalMatrix, diagonalOwner, diagonalAnswer, DiagonalFor}
+use Rattle.diagonal.proofs.Answers.{diagonal-suits, diagonal-answered, diagonal-answer-in-shape, diagonal-answer-sized, diagonal-small}
 use Rattle.diagonal.proofs.Plans.{diagonal-shares, diagonal-owner-2, diagonal-owner-3}
 use Rattle.diagonal.proofs.Places.{moduli-of-2, moduli-of-3, matrix-of-2, matrix-of-3}
-use Rattle.diagonal.proofs.Shares.{product-replicate}
-use Rattle.diagonal.proofs.Sides.{power-one, square, pow-injective}
+use Rattle.diagonal.proofs.Sides.{power-one, square, pow-injective, suits-iff}
 use Rattle.rivals.specs.Demand3.{cutsOf, ownerIn, EvenPlan, Demand3}
 use Rattle.rivals.specs.DiagonalPlans.{Diagonal, DiagonalPlans}
-use Rattle.rivals.proofs.EvenPlans.{ownerBy, owner-by, even-plan}
+use Rattle.rivals.proofs.EvenPlans.{ownerOver, owner-by, rivalOf, even-plan}
 use Rattle.rivals.proofs.Demand3.{demand-3}
 
 -- the shares of s cuts each way, for d = n + 2
@@ -45,14 +42,6 @@ module _ (job : Job) (n s : ℕ) (dimensions : job .d ≡ suc (suc n)) (processo
       (subst⁻¹ (λ (d : ℕ). held (diagonalCuts d s) (diagonalOwner d s) k v q ≡ product (diagonalCuts d s) / (getD (diagonalCuts d s) k 0 * s ^ suc n)) dimensions
       (diagonal-shares (suc n) s k v q (subst (λ (d : ℕ). k < d) dimensions here) inside (subst⁻¹ (λ (p : ℕ). q < p) processors o)))
 
-  share-is-exact : (k : ℕ) → k < length cuts → getD cuts k 0 * job .p ∣ product cuts
-  share-is-exact k l =
-      let here : k < job .d = subst (λ (m : ℕ). k < m) (length-replicate (job .d) s) l in
-      let all : product cuts ≡ s * job .p =
-      ap (λ (d : ℕ). product (diagonalCuts d s)) dimensions ∙ ap (λ (m : ℕ). s * m) (product-replicate (suc n) s ∙ processors) in
-      subst⁻¹ (λ (b : ℕ). b * job .p ∣ product cuts) (getD-replicate (job .d) k s 0 here)
-      (subst⁻¹ (λ (m : ℕ). s * job .p ∣ m) all (dvd-refl (s * job .p)))
-
 module _ (job : Job) (plan : Plan) (shaped : inShape (layoutOf plan) ≡ true) (made : DiagonalFor job (layoutOf plan)) where
   cuts-are : cutsOf plan ≡ diagonalCuts (job .d) (made .s)
   cuts-are = ap (λ (l : Layout). l .cuts) (made .plan-is)
@@ -63,7 +52,7 @@ module _ (job : Job) (plan : Plan) (shaped : inShape (layoutOf plan) ≡ true) (
   matrix-is : layoutOf plan .matrix ≡ diagonalMatrix (job .d) (made .s)
   matrix-is = ap (λ (l : Layout). l .matrix) (made .plan-is)
 
-  owners-are : ownerBy plan ≡ diagonalOwner (job .d) (made .s)
+  owners-are : ownerOver plan ≡ diagonalOwner (job .d) (made .s)
   unfolding diagonalOwner
   owners-are = ap (λ (l : Layout). ownerAt (l .moduli) (l .matrix)) (made .plan-is)
 
@@ -74,24 +63,18 @@ module _ (job : Job) (plan : Plan) (shaped : inShape (layoutOf plan) ≡ true) (
   unfolding layoutOf
   cost-is = ap (λ (l : Layout). l .cost) (made .plan-is) ∙ ap (costOf (job .weights)) (sym cuts-are)
 
-  d-is : plan .d ≡ length (cutsOf plan)
-  unfolding layoutOf
-  d-is = ap (λ (l : Layout). l .d) (made .plan-is) ∙ sym (ap length cuts-are ∙ length-replicate (job .d) (made .s))
-
   even : EvenPlan job plan
   unfolding diagonalOwner
   even =
-      even-plan job plan held-job shaped d-is (subst⁻¹ (Fits (job .extents)) cuts-are (made .fits))
+      even-plan job plan held-job shaped (subst⁻¹ (Fits (job .extents)) cuts-are (made .fits))
       (subst⁻¹ (λ (l : Layout). (k v q : ℕ) → k < length (l .cuts) → v < getD (l .cuts) k 0 → q < job .p
       → held (l .cuts) (ownerAt (l .moduli) (l .matrix)) k v q ≡ product (l .cuts) / (getD (l .cuts) k 0 * job .p)) (made .plan-is)
       (shares job (made .n) (made .s) (made .dimensions) (made .processors)))
-      (subst⁻¹ (λ (bs : List ℕ). (k : ℕ) → k < length bs → getD bs k 0 * job .p ∣ product bs) cuts-are
-      (share-is-exact job (made .n) (made .s) (made .dimensions) (made .processors)))
       cost-is
 
   -- a diagonal plan is a balanced rival
   abbrev rival : Rival job
-  rival = record { cuts = cutsOf plan; member = even .fits; owner = ownerIn plan; below = even .owner-below }
+  rival = rivalOf job plan held-job shaped (even .fits)
 
   against : Demand3 job (plannedOf (planAnswer job))
   against = demand-3 job (made .passed)
@@ -125,7 +108,7 @@ module _ (job : Job) (plan : Plan) (shaped : inShape (layoutOf plan) ≡ true) (
     even = even;
     planned-too = accepted;
     never-cheaper = no-cheaper;
-    suited = go (made .n) refl;
+    suited = suits-iff (job .d) (job .p) (made .passed .range .p-low) .0 (diagonal-suits job (layoutOf plan) made);
     cuts-2 = λ two. cuts-are ∙ ap₂ diagonalCuts two (side-2 two);
     moduli-2 = λ two. moduli-are ∙ ap₂ diagonalModuli two (side-2 two) ∙ moduli-of-2 (job .p);
     rows-2 = λ two. matrix-is ∙ ap₂ diagonalMatrix two (side-2 two) ∙ matrix-of-2 (job .p);
@@ -141,12 +124,6 @@ module _ (job : Job) (plan : Plan) (shaped : inShape (layoutOf plan) ≡ true) (
         ∙ ap₂ (λ (d m : ℕ). diagonalOwner d m (i1 ∷ i2 ∷ i3 ∷ [])) three (side-3 three t q)
         ∙ diagonal-owner-3 t i1 i2 i3 (subst (λ (m : ℕ). 1 ≤ m) (side-3 three t q) (made .positive));
   }
-    where
-      go : (n : ℕ) → made .n ≡ n → (job .d ≡ 2) ⊎ ((job .d ≡ 3) × ((s : ℕ) × (job .p ≡ s * s)))
-      go zero e = inl (omega (arith, made .dimensions, e))
-      go (suc n) e =
-          let one : made .n ≡ 1 = omega (arith, e, made .few) in
-          inr (omega (arith, made .dimensions, one), (made .s, sym (made .processors) ∙ ap (λ (n : ℕ). made .s ^ suc n) one ∙ square (made .s)))
 
 -- "Diagonal plans are shown even and never cheaper than the planner's", for all jobs.
 pub diagonal-plans : (job : Job) → DiagonalPlans job (plannedOf (diagonalAnswer job))

@@ -1,5 +1,6 @@
 -- Demand 3 (document 01, "The rival of demand 3"): what holds of the plan that the planner answers, and of what the owner and neighbour questions
--- answer about it, against every rival; and what holds of every even plan. The calls promise the definitions planAnswer, ownerAnswer and neighbourAnswer, which stand here for them.
+-- answer about it, against every rival; and what holds of every even plan. The calls promise the definitions planAnswer, ownerAnswer and
+-- neighbourAnswer, which stand here for them.
 use mathlib.Core.Bool.{Bool, true}
 use mathlib.Core.List.{List}
 use mathlib.Core.Logic.{_⊎_, _↔_, _≢_}

@@ -8,11 +8,12 @@ use native.Mathlib.Nat.{le-trans}
 use native.Mathlib.Omega.{arith}
 use Rattle.multipartition.specs.Answers.{refused as refusal}
 use Rattle.multipartition.specs.Plans.{Job, jobWith}
+use Rattle.multipartition.proofs.Tests.{in-range-of-test}
 use Rattle.layout.specs.Plans.{planOf}
 use Rattle.planner.specs.Planned.{plannedOf}
-use Rattle.planner.proofs.Refusals.{in-range-of-test, lengths}
+use Rattle.planner.proofs.Refusals.{lengths}
 use Rattle.diagonal.specs.Diagonal.{diagonalPlan, sideOf, suits, sideFits}
-use Rattle.diagonal.proofs.Sides.{suits-high, suited-above, suited-within, side-low}
+use Rattle.diagonal.proofs.Sides.{suits-facts, suited-above, suited-within, side-low}
 use Rattle.diagonal.proofs.Refusals.{refused-1, refused-2, refused-12, refused-3, refused-4, refused-5, planned}
 use Rattle.diagonal.proofs.diagonal_job.Statement.{statement}
 use Rattle.diagonal.proofs.diagonal_job.Tie as tie
@@ -110,7 +111,7 @@ plan-with-requires c κs =
     let a = c .before .before .before .before .before .before .before .before .before .before .before .args in
     let many = lengths (a .d) (a .extents .now) (a .weights .now) (c .before .before .before .before .if4 .left) in (
       subst⁻¹ (λ (n : ℕ). 2 ≤ n) (many .0) (d-range (e .before .before .before) .0),
-      subst⁻¹ (λ (n : ℕ). n ≤ 3) (many .0) (suits-high (a .d) (a .p) (suited e .0)),
+      subst⁻¹ (λ (n : ℕ). n ≤ 3) (many .0) (suits-facts (a .d) (a .p) .0 (suited e .0) .high),
       many .1 ∙ sym (many .0),
       subst⁻¹ (λ (s : ℕ). 1 ≤ s) (suited e .1) (side-low (a .d) (a .p)),
       le-trans (side-within e) (p-range (e .before .before) .1),

@@ -3,7 +3,8 @@ use borrow.Author.Needs.{needs}
 use mathlib.Core.Path.{sym, ap, _∙_}
 use Prim.Native.Nat.{ℕ}
 use native.Mathlib.Omega.{arith}
-use Rattle.diagonal.proofs.Sides.{suitedSide, suits-high, unsuited, suited-2}
+use Rattle.diagonal.specs.Diagonal.{suitedSide}
+use Rattle.diagonal.proofs.Sides.{suits-facts, unsuited, suited-2}
 use Rattle.diagonal.proofs.side_of.Statement.{statement}
 use Rattle.diagonal.proofs.side_of.Tie as tie
 
@@ -27,7 +28,7 @@ returns-3 : tie.Need-returns-3
 returns-3 c =
     let start = c .before .before in
     let a = start .args in
-    sym (unsuited (a .d) (a .p) (λ e. omega (arith, suits-high (a .d) (a .p) e, start .pre .0, c .before .if1 .left, c .if2 .left)))
+    sym (unsuited (a .d) (a .p) (λ e. omega (arith, suits-facts (a .d) (a .p) .0 e .high, start .pre .0, c .before .if1 .left, c .if2 .left)))
 
 pub side-of-spec : {M : Type 1} → statement M
 side-of-spec = tie.close (tie.spec returns square-side-requires returns-2 add-result returns-3)

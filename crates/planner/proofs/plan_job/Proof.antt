@@ -8,7 +8,8 @@ use Rattle.multipartition.specs.Plans.{jobWith}
 use Rattle.multipartition.specs.Jobs.{planWith}
 use Rattle.multipartition.proofs.Jobs.{plan-of-passed}
 use Rattle.planner.specs.Planned.{plannedOf}
-use Rattle.planner.proofs.Refusals.{in-range-of-test, lengths, refused-1, refused-2, refused-3, refused-4, passed}
+use Rattle.multipartition.proofs.Tests.{in-range-of-test}
+use Rattle.planner.proofs.Refusals.{lengths, refused-1, refused-2, refused-3, refused-4, passed}
 use borrow.Author.Needs.{needs}
 use Rattle.planner.proofs.plan_job.Statement.{statement}
 use Rattle.planner.proofs.plan_job.Tie as tie
