@@ -34,11 +34,18 @@ plannable-diagonal job = record {
   sized = diagonal-answer-sized job;
 }
 
--- the list of a plan that is answered is read as that plan
-pub layout-of-planned-list : (asked : Answer Layout) → Plannable asked → (layout : Layout) → asked ≡ answered layout
-    → layoutOf (planIn (listOfPlan (planOf layout))) ≡ layout
-layout-of-planned-list asked plannable layout a =
-    ap layoutOf (plan-in-list (planOf layout) (arrays-of-layout layout)) ∙ layout-of-plan layout (plannable .sized layout a)
+-- ---- the list that a planning call writes is read as the plan that it answers
+
+layout-of-list : (layout : Layout) → Sized layout → layoutOf (planIn (listOfPlan (planOf layout))) ≡ layout
+layout-of-list layout sized = ap layoutOf (plan-in-list (planOf layout) (arrays-of-layout layout)) ∙ layout-of-plan layout sized
+
+pub layout-of-planned-list : (job : Job) (layout : Layout) → planAnswer job ≡ answered layout → layoutOf (planIn (listOfPlan (planOf layout))) ≡ layout
+layout-of-planned-list job layout a = layout-of-list layout (plan-sized job layout a)
+
+pub layout-of-diagonal-list : (job : Job) (layout : Layout) → diagonalAnswer job ≡ answered layout → layoutOf (planIn (listOfPlan (planOf layout))) ≡ layout
+layout-of-diagonal-list job layout a = layout-of-list layout (diagonal-answer-sized job layout a)
+
+-- ---- what it returns
 
 -- what a planning call answered, whose number 0 tells a plan from a refusal
 module _ (planned : Planned) where
