@@ -134,7 +134,7 @@ static void hypercube(const char *what, uint32_t p, size_t position_length, uint
 static void hypercubes(void)
 {
     const size_t a = MULTIPARTITION_HYPERCUBE_OWNER_LENGTH;
-    const uint32_t beyond[] = {0, 4097, 16384, UINT32_MAX}, unsuited[] = {2, 3, 8, 32, 1000, 2048, 4095};
+    const uint32_t beyond[] = {0, 4097, 16384, UINT32_MAX}, unsuited[] = {2, 3, 8, 9, 32, 36, 1000, 2048, 2304, 4095};
     for (size_t i = 0; i < sizeof beyond / sizeof *beyond; i++) {
         hypercube("processors out of range", beyond[i], 2, 64, 0, 64, 0, MULTIPARTITION_BAD_PROCESSORS);
         hypercube("processors out of range", beyond[i], 3, 0, 0, 0, a, MULTIPARTITION_BAD_PROCESSORS);

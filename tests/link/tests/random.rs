@@ -12,7 +12,7 @@ use link::plan_list::{
 };
 use link::questions::{
     any_numbers, diagonals, dimensions, hypercube, job, job_for_diagonal, lent, made_by_hand,
-    move_to_limit, plan_list, planned, question, tiles_in_slab, timetable, Question,
+    move_to_limit, plan_list, planned, question, tiles_in_slab, timetable, Job, Question,
 };
 use oracle::plan::{Plan, DIAGONAL};
 use oracle::random::Random;
@@ -310,6 +310,26 @@ fn jobs_for_diagonal_plans() {
         seen.note(diagonal(&mut lists, &job, &lent));
     }
     seen.check(&[0, 1, 2, 3, 4, 5, 9, 12], 100);
+}
+
+/// Every count of processors in both older layouts: which of them suit.
+#[test]
+fn every_count_of_the_older_layouts() {
+    let mut lists = Lists::default();
+    let mut seen = [0; 3];
+    for p in 0..=4097 {
+        for (d, extent) in [(2, 4096), (3, 64)] {
+            let job = Job {
+                p,
+                d,
+                extents: vec![extent; d as usize],
+                weights: vec![1; d as usize],
+            };
+            seen[d as usize - 2] += u32::from(diagonal(&mut lists, &job, &[77; PLAN_LENGTH]) == 0);
+        }
+        seen[2] += u32::from(hypercube_owner(&mut lists, p, &[0; 3], &[77]) == 0);
+    }
+    assert_eq!(seen, [4096, 64, 7]);
 }
 
 /// "Diagonal plans are shown even and never cheaper than the planner's", which takes every job that has a diagonal plan.
