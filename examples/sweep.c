@@ -92,9 +92,10 @@ static void older_layouts(const uint32_t extents[D], const uint32_t weights[D])
     uint32_t plan[MULTIPARTITION_PLAN_LENGTH], owner[MULTIPARTITION_HYPERCUBE_OWNER_LENGTH];
     const uint32_t position[3] = {3, 0, 2};
     check(multipartition_diagonal(4, D, extents, D, weights, D, plan, MULTIPARTITION_PLAN_LENGTH));
-    printf("in the diagonal layout of 4 processors the tiles belong to\n");
-    for (uint32_t slab = 0; slab < plan[MULTIPARTITION_CUTS]; slab++)
+    for (uint32_t slab = 0; slab < plan[MULTIPARTITION_CUTS]; slab++) {
+        printf("in the diagonal layout of 4 processors the tiles of slab %" PRIu32 " belong to\n", slab);
         print_owners(plan, slab);
+    }
     check(multipartition_hypercube_owner(16, position, 3, owner, MULTIPARTITION_HYPERCUBE_OWNER_LENGTH));
     printf("in the hypercube layout of 16 processors the tile at 3 0 2 belongs to %" PRIu32 "\n", owner[MULTIPARTITION_HYPERCUBE_OWNER]);
 }

@@ -16,8 +16,8 @@
  *   receiver expects before the next, and the receiver names the sender; except after the last step, the lengths that all processors send after a
  *   step add up to the product of the extents of the other dimensions; no length is cut off to 32 bits. For a list that multipartition_plan or
  *   multipartition_diagonal wrote, every processor works on exactly tiles / (cut * p) tiles in every step.
- * - The owners that multipartition_hypercube_owner gives for two tiles with a common face differ in one bit if the face is along dimension 1 or 2,
- *   and in two bits if it is along dimension 3.
+ * - An owner that multipartition_hypercube_owner gives is below p. The owners of two tiles with a common face differ in one bit if the face is along
+ *   dimension 1 or 2, and in two bits if it is along dimension 3.
  *
  * What follows from it: a call reads and writes its lists and its own stack and nothing else. The archive has no variables, asks for no
  * memory and calls nothing but memcpy and memset. So calls from several threads need no lock, as long as no list is written in one thread
@@ -123,7 +123,7 @@ enum multipartition_number {
     MULTIPARTITION_BAD_PLAN = 6,           /* the plan list has another length than 50, or its plan is out of shape */
     MULTIPARTITION_BAD_DIMENSION = 7,      /* the dimension is not 1 to d */
     MULTIPARTITION_OTHER_EXTENTS = 11,     /* the product of the extents of the other dimensions is above 4,294,967,295 */
-    MULTIPARTITION_OUT_OF_RANGE = 8,       /* a slab, element, tile, coordinate, step or processor out of range, or not d coordinates (three in the hypercube) */
+    MULTIPARTITION_OUT_OF_RANGE = 8,       /* a slab, element, tile, coordinate, step or processor out of range, or another number of coordinates */
     MULTIPARTITION_BAD_ANSWER_LENGTH = 9
 };
 
