@@ -93,7 +93,7 @@ static void older_layouts(const uint32_t extents[D], const uint32_t weights[D])
     const uint32_t position[3] = {3, 0, 2};
     check(multipartition_diagonal(4, D, extents, D, weights, D, plan, MULTIPARTITION_PLAN_LENGTH));
     for (uint32_t slab = 0; slab < plan[MULTIPARTITION_CUTS]; slab++) {
-        printf("in the diagonal layout of 4 processors the tiles of slab %" PRIu32 " belong to\n", slab);
+        printf("in the diagonal layout of 4 processors the tiles of slab %" PRIu32 " of dimension 1 belong to\n", slab);
         print_owners(plan, slab);
     }
     check(multipartition_hypercube_owner(16, position, 3, owner, MULTIPARTITION_HYPERCUBE_OWNER_LENGTH));

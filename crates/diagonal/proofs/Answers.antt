@@ -67,7 +67,6 @@ module _ (job : Job) (plan : Layout) where
         ap (diagonalPlan job) found ∙ sym (made .plan-is),
       )
 
-  -- what it takes for a job to be answered, and with which plan
   pub diagonal-answered : (diagonalAnswer job ≡ answered plan) ↔ DiagonalFor job plan
   diagonal-answered = (diagonal-told, diagonal-of)
 

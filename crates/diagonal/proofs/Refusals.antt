@@ -9,8 +9,8 @@ use Rattle.multipartition.specs.Answers.{answered, refused}
 use Rattle.multipartition.specs.Plans.{Job}
 use Rattle.multipartition.specs.Jobs.{firstOutside}
 use Rattle.multipartition.proofs.Answers.{FirstFails, checked-passed, checked-refused}
-use Rattle.multipartition.proofs.Tests.{outsideRange}
-use Rattle.planner.proofs.Refusals.{otherLengths, fails-1, fails-2}
+use Rattle.multipartition.proofs.Tests.{outsideRange, outside-range}
+use Rattle.planner.proofs.Refusals.{otherLengths}
 use Rattle.diagonal.specs.Diagonal.{diagonalPlan, sideOf, suits, sideFits, diagonalChecks, diagonalAnswer}
 
 module _ (job : Job) where
@@ -19,25 +19,25 @@ module _ (job : Job) where
   first-fails = checked-refused (diagonalChecks job) (answered (diagonalPlan job (sideOf (job .d) (job .p))))
 
   pub refused-1 : outsideRange 2 5 (job .d) ≡ true → diagonalAnswer job ≡ refused 1 0
-  refused-1 e = first-fails 1 0 (inl (fails-1 job ∙ e, refl, refl))
+  refused-1 e = first-fails 1 0 (inl (outside-range 2 5 (job .d) ∙ e, refl, refl))
 
   module _ (d-in : outsideRange 2 5 (job .d) ≡ false) where
     pub refused-2 : outsideRange 1 4096 (job .p) ≡ true → diagonalAnswer job ≡ refused 2 0
-    refused-2 e = first-fails 2 0 (inr (fails-1 job ∙ d-in, inl (fails-2 job ∙ e, refl, refl)))
+    refused-2 e = first-fails 2 0 (inr (outside-range 2 5 (job .d) ∙ d-in, inl (outside-range 1 4096 (job .p) ∙ e, refl, refl)))
 
     module _ (p-in : outsideRange 1 4096 (job .p) ≡ false) where
       pub refused-12 : suits (job .d) (job .p) ≡ false → diagonalAnswer job ≡ refused 12 0
-      refused-12 e = first-fails 12 0 (inr (fails-1 job ∙ d-in, inr (fails-2 job ∙ p-in, inl (ap not e, refl, refl))))
+      refused-12 e = first-fails 12 0 (inr (outside-range 2 5 (job .d) ∙ d-in, inr (outside-range 1 4096 (job .p) ∙ p-in, inl (ap not e, refl, refl))))
 
       module _ (suit : suits (job .d) (job .p) ≡ true) where
         pub refused-3 : otherLengths (job .d) (job .extents) (job .weights) ≡ true → diagonalAnswer job ≡ refused 3 0
-        refused-3 e = first-fails 3 0 (inr (fails-1 job ∙ d-in, inr (fails-2 job ∙ p-in, inr (ap not suit, inl (e, refl, refl)))))
+        refused-3 e = first-fails 3 0 (inr (outside-range 2 5 (job .d) ∙ d-in, inr (outside-range 1 4096 (job .p) ∙ p-in, inr (ap not suit, inl (e, refl, refl)))))
 
         module _ (many : otherLengths (job .d) (job .extents) (job .weights) ≡ false) where
           pub refused-4 : (firstOutside 1 (job .extents) ≡ 0 → ⊥) → diagonalAnswer job ≡ refused 4 (firstOutside 1 (job .extents))
           refused-4 e =
               first-fails 4 (firstOutside 1 (job .extents))
-              (inr (fails-1 job ∙ d-in, inr (fails-2 job ∙ p-in, inr (ap not suit, inr (many, inl (ap not (ne-eqb (firstOutside 1 (job .extents)) 0 e), refl, refl))))))
+              (inr (outside-range 2 5 (job .d) ∙ d-in, inr (outside-range 1 4096 (job .p) ∙ p-in, inr (ap not suit, inr (many, inl (ap not (ne-eqb (firstOutside 1 (job .extents)) 0 e), refl, refl))))))
 
           module _ (inside : firstOutside 1 (job .extents) ≡ 0) where
             extents-pass : not (eqb (firstOutside 1 (job .extents)) 0) ≡ false
@@ -46,11 +46,11 @@ module _ (job : Job) where
             pub refused-5 : sideFits (sideOf (job .d) (job .p)) (job .extents) ≡ false → diagonalAnswer job ≡ refused 5 0
             refused-5 e =
                 first-fails 5 0
-                (inr (fails-1 job ∙ d-in, inr (fails-2 job ∙ p-in, inr (ap not suit, inr (many, inr (extents-pass, inl (ap not e, refl, refl)))))))
+                (inr (outside-range 2 5 (job .d) ∙ d-in, inr (outside-range 1 4096 (job .p) ∙ p-in, inr (ap not suit, inr (many, inr (extents-pass, inl (ap not e, refl, refl)))))))
 
             pub planned : sideFits (sideOf (job .d) (job .p)) (job .extents) ≡ true
                 → diagonalAnswer job ≡ answered (diagonalPlan job (sideOf (job .d) (job .p)))
             unfolding diagonalAnswer
             planned e =
                 checked-passed (diagonalChecks job) (answered (diagonalPlan job (sideOf (job .d) (job .p))))
-                (fails-1 job ∙ d-in, (fails-2 job ∙ p-in, (ap not suit, (many, (extents-pass, (ap not e, tt))))))
+                (outside-range 2 5 (job .d) ∙ d-in, (outside-range 1 4096 (job .p) ∙ p-in, (ap not suit, (many, (extents-pass, (ap not e, tt))))))

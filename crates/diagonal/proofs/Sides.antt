@@ -69,6 +69,7 @@ module _ (n p : ℕ) where
 
 -- ---- where p and d suit the layout
 
+-- the test's clauses
 pub record Suited (d p : ℕ) : Type 0 where
   pub low : 2 ≤ d
   pub high : d ≤ 3

@@ -68,7 +68,7 @@ sideOf d p = firstSuch (isSide d p) 1 p
 unfoldable pub suits : ℕ → ℕ → Bool
 suits d p = between 2 3 d && leb (sideOf d p) p
 
--- the side where they suit p and d, else p + 1
+-- the side where p and d suit the layout, else p + 1
 abbrev pub suitedSide : ℕ → ℕ → ℕ
 suitedSide d p = cond (suits d p) (sideOf d p) (p + 1)
 

@@ -13,7 +13,6 @@ use lib.ListN.{getD}
 use Rattle.multipartition.specs.Answers.{answered, refused}
 use Rattle.multipartition.specs.Tiles.{Inside, isInside}
 use Rattle.multipartition.specs.Rivals.{Face}
-use Rattle.multipartition.specs.Plans.{between}
 use Rattle.multipartition.proofs.Tests.{between-true-iff, outsideRange, outside-range}
 use Rattle.multipartition.proofs.Answers.{FirstFails, checked-passed, checked-refused, answers-iff}
 use Rattle.multipartition.proofs.Tiles.{inside-of-test, test-of-inside}
@@ -28,11 +27,8 @@ module _ (p : ℕ) (x : List ℕ) where
   unfolding hypercubeAnswer
   first-fails = checked-refused (hypercubeChecks p x) (answered (hypercubeOwner (exponentOf p) x))
 
-  fails-2 : not (between 1 4096 p) ≡ outsideRange 1 4096 p
-  fails-2 = sym (outside-range 1 4096 p)
-
   pub refused-2 : outsideRange 1 4096 p ≡ true → hypercubeAnswer p x ≡ refused 2 0
-  refused-2 e = first-fails 2 0 (inl (fails-2 ∙ e, refl, refl))
+  refused-2 e = first-fails 2 0 (inl (outside-range 1 4096 p ∙ e, refl, refl))
 
   module _ (p-in : outsideRange 1 4096 p ≡ false) (side : ℕ) (e : side ≡ 2 ^ exponentOf p) where
     suits : leb (exponentOf p) 6 ≡ leb side 64
@@ -43,7 +39,7 @@ module _ (p : ℕ) (x : List ℕ) where
     cuts-are = ap (λ (n : ℕ). n ∷ n ∷ n ∷ []) (sym e)
 
     pub refused-12 : 64 < side → hypercubeAnswer p x ≡ refused 12 0
-    refused-12 l = first-fails 12 0 (inr (fails-2 ∙ p-in, inl (ap not (suits ∙ lt-leb side 64 l), refl, refl)))
+    refused-12 l = first-fails 12 0 (inr (outside-range 1 4096 p ∙ p-in, inl (ap not (suits ∙ lt-leb side 64 l), refl, refl)))
 
     module _ (small : side ≤ 64) where
       suits-pass : not (leb (exponentOf p) 6) ≡ false
@@ -53,13 +49,13 @@ module _ (p : ℕ) (x : List ℕ) where
       inside-is b i = ap not (ap (λ (cuts : List ℕ). isInside cuts x) cuts-are ∙ i)
 
       pub refused-8 : isInside (side ∷ side ∷ side ∷ []) x ≡ false → hypercubeAnswer p x ≡ refused 8 0
-      refused-8 o = first-fails 8 0 (inr (fails-2 ∙ p-in, inr (suits-pass, inl (inside-is false o, refl, refl))))
+      refused-8 o = first-fails 8 0 (inr (outside-range 1 4096 p ∙ p-in, inr (suits-pass, inl (inside-is false o, refl, refl))))
 
       pub owned : isInside (side ∷ side ∷ side ∷ []) x ≡ true
           → hypercubeAnswer p x ≡ answered (gray ((getD x 1 0 + getD x 2 0) % side) * side + gray ((getD x 0 0 + getD x 2 0) % side))
       unfolding hypercubeAnswer hypercubeOwner
       owned i =
-          checked-passed (hypercubeChecks p x) (answered (hypercubeOwner (exponentOf p) x)) (fails-2 ∙ p-in, (suits-pass, (inside-is true i, tt)))
+          checked-passed (hypercubeChecks p x) (answered (hypercubeOwner (exponentOf p) x)) (outside-range 1 4096 p ∙ p-in, (suits-pass, (inside-is true i, tt)))
           ∙ ap (λ (n : ℕ). answered (gray ((getD x 1 0 + getD x 2 0) % n) * n + gray ((getD x 0 0 + getD x 2 0) % n))) (sym e)
 
 -- ---- what an answer says

@@ -74,10 +74,10 @@ by-cond P false x y f g = g refl
 abbrev pub outsideRange : ℕ → ℕ → ℕ → Bool
 outsideRange low high n = ltb n low || ltb high n
 
-pub outside-range : (low high n : ℕ) → outsideRange low high n ≡ not (between low high n)
+pub outside-range : (low high n : ℕ) → not (between low high n) ≡ outsideRange low high n
 outside-range low high n = go (decLe low n) (decLe n high)
   where
-    go : Dec (low ≤ n) → Dec (n ≤ high) → outsideRange low high n ≡ not (leb low n && leb n high)
+    go : Dec (low ≤ n) → Dec (n ≤ high) → not (leb low n && leb n high) ≡ outsideRange low high n
     go (yes a) (yes b) = rw (le-ltb n low a, le-ltb high n b, le-leb low n a, le-leb n high b)
     go (yes a) (no b) =
         let m : high < n = omega arith in

@@ -41,10 +41,14 @@ lengthCheck fits = record { fails = not fits; number = 9; place = 0 }
 
 -- ---- the questions
 
+-- the owner of a position by the plan's moduli and matrix
+abbrev pub ownerBy : Layout → List ℕ → ℕ
+ownerBy plan = ownerAt (plan .moduli) (plan .matrix)
+
 -- who owns a position
 unfoldable pub ownerAnswer : Layout → List ℕ → Answer ℕ
 ownerAnswer plan position =
-    checked (shapeCheck plan ∷ rangeCheck (isInside (plan .cuts) position) ∷ []) (answered (ownerAt (plan .moduli) (plan .matrix) position))
+    checked (shapeCheck plan ∷ rangeCheck (isInside (plan .cuts) position) ∷ []) (answered (ownerBy plan position))
 
 -- who is the neighbour of processor q along dimension k, up or down; none is "no neighbour"
 unfoldable pub neighbourAnswer : Layout → ℕ → ℕ → Bool → Answer (Option ℕ)
@@ -81,7 +85,7 @@ slabOfAnswer plan k element =
 
 -- the owner of a tile, by its number
 abbrev pub tileOwner : Layout → ℕ → ℕ
-tileOwner plan tile = ownerAt (plan .moduli) (plan .matrix) (positionOf (plan .cuts) tile)
+tileOwner plan tile = ownerBy plan (positionOf (plan .cuts) tile)
 
 -- the two chain lists, for lent lists of so many places: "Chains need 6 and 9 only."
 unfoldable pub chainsAnswer : Layout → ℕ → ℕ → Answer (List ℕ × List ℕ)

@@ -10,8 +10,9 @@ use lib.ListN.{length}
 use Rattle.multipartition.specs.Answers.{Answer, answered}
 use Rattle.multipartition.specs.Cuts.{Even, costOf}
 use Rattle.multipartition.specs.Jobs.{PlanFor, Passed, cheapestFor, planWith, planAnswer}
-use Rattle.multipartition.specs.Owners.{ownerAt, ownerOf}
+use Rattle.multipartition.specs.Owners.{ownerOf}
 use Rattle.multipartition.specs.Plans.{Job, Layout, jobOf, layoutWith, inShape}
+use Rattle.multipartition.specs.Questions.{ownerBy}
 use Rattle.multipartition.specs.Rivals.{held}
 use Rattle.multipartition.specs.Tiles.{Inside}
 use Rattle.multipartition.proofs.Chosen.{balanced-iff-chosen, chosen-fits, chosen-length, chosen-even, chosen-minimal, chosen-no-dearer}
@@ -23,7 +24,7 @@ use Rattle.layout.specs.Plans.{layoutOf, planOf}
 use Rattle.layout.proofs.Plans.{layout-of-plan, layout-with-sized}
 use Rattle.planner.specs.Planned.{plannedOf}
 use Rattle.rivals.specs.Demand3.{cutsOf, ownerIn, EvenPlan, Ours, Demand3}
-use Rattle.rivals.proofs.EvenPlans.{ownerOver, owner-by, even-plan}
+use Rattle.rivals.proofs.EvenPlans.{owner-by, even-plan}
 
 module _ (job : Job) (plan : Plan) (e : planAnswer job ≡ answered (layoutOf plan)) where
   made : PlanFor job (layoutOf plan)
@@ -46,9 +47,9 @@ module _ (job : Job) (plan : Plan) (e : planAnswer job ≡ answered (layoutOf pl
   shaped = plan-in-shape job (layoutOf plan) e
 
   -- the owners by moduli and matrix are the paper's
-  owners-are : ownerOver plan ≡ ownerOf (job .p) (cutsOf plan)
+  owners-are : ownerBy (layoutOf plan) ≡ ownerOf (job .p) (cutsOf plan)
   unfolding ownerOf
-  owners-are = ap (λ (l : Layout). ownerAt (l .moduli) (l .matrix)) (made .plan-is)
+  owners-are = ap ownerBy (made .plan-is)
 
   owner-of : (x : List ℕ) → Inside (cutsOf plan) x → ownerIn plan x ≡ ownerOf (job .p) (cutsOf plan) x
   owner-of x w = owner-by job plan held-job shaped x w ∙ ap (λ (own : List ℕ → ℕ). own x) owners-are

@@ -9,8 +9,8 @@ use Rattle.numbers.specs.Products.{product}
 use Rattle.multipartition.specs.Answers.{Answer, answered, refused}
 use Rattle.multipartition.specs.Cuts.{Fits, costOf}
 use Rattle.multipartition.specs.Jobs.{planAnswer}
-use Rattle.multipartition.specs.Owners.{ownerAt}
 use Rattle.multipartition.specs.Plans.{Job, Layout, jobOf, inShape}
+use Rattle.multipartition.specs.Questions.{ownerBy}
 use Rattle.multipartition.specs.Rivals.{Rival, held}
 use Rattle.multipartition.specs.Tiles.{Inside}
 use Rattle.multipartition.proofs.Answers.{Small}
@@ -25,7 +25,7 @@ use Rattle.diagonal.proofs.Places.{moduli-of-2, moduli-of-3, matrix-of-2, matri
 use Rattle.diagonal.proofs.Sides.{power-one, square, pow-injective, suits-iff}
 use Rattle.rivals.specs.Demand3.{cutsOf, ownerIn, EvenPlan, Demand3}
 use Rattle.rivals.specs.DiagonalPlans.{Diagonal, DiagonalPlans}
-use Rattle.rivals.proofs.EvenPlans.{ownerOver, owner-by, rivalOf, even-plan}
+use Rattle.rivals.proofs.EvenPlans.{owner-by, rivalOf, even-plan}
 use Rattle.rivals.proofs.Demand3.{demand-3}
 
 -- the shares of s cuts each way, for d = n + 2
@@ -52,9 +52,9 @@ module _ (job : Job) (plan : Plan) (shaped : inShape (layoutOf plan) ≡ true) (
   matrix-is : layoutOf plan .matrix ≡ diagonalMatrix (job .d) (made .s)
   matrix-is = ap (λ (l : Layout). l .matrix) (made .plan-is)
 
-  owners-are : ownerOver plan ≡ diagonalOwner (job .d) (made .s)
+  owners-are : ownerBy (layoutOf plan) ≡ diagonalOwner (job .d) (made .s)
   unfolding diagonalOwner
-  owners-are = ap (λ (l : Layout). ownerAt (l .moduli) (l .matrix)) (made .plan-is)
+  owners-are = ap ownerBy (made .plan-is)
 
   held-job : jobOf (layoutOf plan) ≡ job
   held-job = ap jobOf (made .plan-is)
@@ -68,7 +68,7 @@ module _ (job : Job) (plan : Plan) (shaped : inShape (layoutOf plan) ≡ true) (
   even =
       even-plan job plan held-job shaped (subst⁻¹ (Fits (job .extents)) cuts-are (made .fits))
       (subst⁻¹ (λ (l : Layout). (k v q : ℕ) → k < length (l .cuts) → v < getD (l .cuts) k 0 → q < job .p
-      → held (l .cuts) (ownerAt (l .moduli) (l .matrix)) k v q ≡ product (l .cuts) / (getD (l .cuts) k 0 * job .p)) (made .plan-is)
+      → held (l .cuts) (ownerBy l) k v q ≡ product (l .cuts) / (getD (l .cuts) k 0 * job .p)) (made .plan-is)
       (shares job (made .n) (made .s) (made .dimensions) (made .processors)))
       cost-is
 

@@ -11,9 +11,8 @@ use Rattle.numbers.specs.Sums.{same}
 use Rattle.multipartition.specs.Answers.{answered}
 use Rattle.multipartition.specs.Cuts.{Even, Fits, costOf}
 use Rattle.multipartition.specs.Neighbours.{neighbourAt}
-use Rattle.multipartition.specs.Owners.{ownerAt}
 use Rattle.multipartition.specs.Plans.{Job, jobOf, inShape}
-use Rattle.multipartition.specs.Questions.{ownerAnswer, neighbourAnswer}
+use Rattle.multipartition.specs.Questions.{ownerBy, ownerAnswer, neighbourAnswer}
 use Rattle.multipartition.specs.Rivals.{Rival, held, Balanced}
 use Rattle.multipartition.specs.Tiles.{Inside, oneStepOn}
 use Rattle.multipartition.proofs.BothWays.{owner-answered, neighbour-answered}
@@ -37,16 +36,12 @@ held-ext cuts own own′ k s q agree =
     ∙ total-ext cuts (λ x w. ap (λ (n : ℕ). same (getD x k 0) s * same n q) (agree x w))
     ∙ sym (held-total cuts own′ k s q)
 
--- the owners by the plan's moduli and matrix
-abbrev pub ownerOver : Plan → List ℕ → ℕ
-ownerOver plan = ownerAt (layoutOf plan .moduli) (layoutOf plan .matrix)
-
 module _ (job : Job) (plan : Plan) (held-job : jobOf (layoutOf plan) ≡ job) (shaped : inShape (layoutOf plan) ≡ true) where
-  owner-answers : (x : List ℕ) → Inside (cutsOf plan) x → ownerAnswer (layoutOf plan) x ≡ answered (ownerOver plan x)
-  owner-answers x w = owner-answered (layoutOf plan) x (ownerOver plan x) .1 (shaped, w, refl)
+  owner-answers : (x : List ℕ) → Inside (cutsOf plan) x → ownerAnswer (layoutOf plan) x ≡ answered (ownerBy (layoutOf plan) x)
+  owner-answers x w = owner-answered (layoutOf plan) x (ownerBy (layoutOf plan) x) .1 (shaped, w, refl)
 
   -- the owner that the question names is the definition's
-  pub owner-by : (x : List ℕ) → Inside (cutsOf plan) x → ownerIn plan x ≡ ownerOver plan x
+  pub owner-by : (x : List ℕ) → Inside (cutsOf plan) x → ownerIn plan x ≡ ownerBy (layoutOf plan) x
   unfolding ownerIn
   owner-by x w = ap processorIn (owner-answers x w)
 
@@ -56,7 +51,7 @@ module _ (job : Job) (plan : Plan) (held-job : jobOf (layoutOf plan) ≡ job) (s
   pub owner-is-processor : (x : List ℕ) → Inside (cutsOf plan) x → ownerIn plan x < job .p
   owner-is-processor x w =
       subst⁻¹ (λ (n : ℕ). n < job .p) (owner-by x w)
-      (subst⁻¹ (λ (n : ℕ). ownerOver plan x < n) (sym p-is ∙ sym (moduli-checked (layoutOf plan) shaped .1))
+      (subst⁻¹ (λ (n : ℕ). ownerBy (layoutOf plan) x < n) (sym p-is ∙ sym (moduli-checked (layoutOf plan) shaped .1))
       (owner-below-product (layoutOf plan .moduli) (layoutOf plan .matrix) x (in-shape-moduli-positive (layoutOf plan) shaped)))
 
   d-is : length (cutsOf plan) ≡ plan .d
@@ -91,7 +86,7 @@ module _ (job : Job) (plan : Plan) (held-job : jobOf (layoutOf plan) ≡ job) (s
 
   pub even-plan : Fits (job .extents) (cutsOf plan)
       → ((k s q : ℕ) → k < length (cutsOf plan) → s < getD (cutsOf plan) k 0 → q < job .p
-      → held (cutsOf plan) (ownerOver plan) k s q ≡ product (cutsOf plan) / (getD (cutsOf plan) k 0 * job .p))
+      → held (cutsOf plan) (ownerBy (layoutOf plan)) k s q ≡ product (cutsOf plan) / (getD (cutsOf plan) k 0 * job .p))
       → plan .cost ≡ costOf (job .weights) (cutsOf plan) → EvenPlan job plan
   unfolding Balanced
   even-plan fits shares cost = record {
@@ -100,10 +95,10 @@ module _ (job : Job) (plan : Plan) (held-job : jobOf (layoutOf plan) ≡ job) (s
     fits = fits;
     owner-answered = λ x w. owner-answers x w ∙ ap answered (sym (owner-by x w));
     owner-below = owner-is-processor;
-    cuts-even = evens;
+    cuts-even = even-cuts;
     balanced = balanced-are;
     shares = shares-are;
-    share-exact = share-exact (job .p) (cutsOf plan) evens;
+    share-exact = share-exact (job .p) (cutsOf plan) even-cuts;
     cost-summed = cost;
     one-neighbour = neighbour-is;
     one-owner = one-owner-is;
@@ -111,7 +106,7 @@ module _ (job : Job) (plan : Plan) (held-job : jobOf (layoutOf plan) ≡ job) (s
     where
       shares-are : (k s q : ℕ) → k < length (cutsOf plan) → s < getD (cutsOf plan) k 0 → q < job .p
           → held (cutsOf plan) (ownerIn plan) k s q ≡ product (cutsOf plan) / (getD (cutsOf plan) k 0 * job .p)
-      shares-are k s q l m o = held-ext (cutsOf plan) (ownerIn plan) (ownerOver plan) k s q owner-by ∙ shares k s q l m o
+      shares-are k s q l m o = held-ext (cutsOf plan) (ownerIn plan) (ownerBy (layoutOf plan)) k s q owner-by ∙ shares k s q l m o
 
       balanced-are : Balanced (job .p) (cutsOf plan) (ownerIn plan)
       balanced-are k s l m q r o o′ = shares-are k s q l m o ∙ sym (shares-are k s r l m o′)
@@ -119,5 +114,5 @@ module _ (job : Job) (plan : Plan) (held-job : jobOf (layoutOf plan) ≡ job) (s
       some-processor : 1 ≤ job .p
       some-processor = subst (λ (n : ℕ). 1 ≤ n) p-is (moduli-checked (layoutOf plan) shaped .0)
 
-      evens : Even (job .p) (cutsOf plan)
-      evens = even-of-balanced (job .p) (job .extents) some-processor (rivalOf fits) balanced-are
+      even-cuts : Even (job .p) (cutsOf plan)
+      even-cuts = even-of-balanced (job .p) (job .extents) some-processor (rivalOf fits) balanced-are

@@ -13,6 +13,7 @@ use Rattle.numbers.specs.Products.{product, without}
 use Rattle.numbers.specs.Sums.{sum}
 use Rattle.numbers.proofs.Products.{product-without}
 use Rattle.numbers.proofs.Sums.{sum-term-le}
+use Rattle.multipartition.specs.Questions.{ownerBy}
 use Rattle.multipartition.specs.Tiles.{Inside}
 use Rattle.multipartition.proofs.MixedRadix.{positive-of-places}
 use Rattle.layout.specs.declared.Plan.{Plan}
@@ -21,7 +22,7 @@ use Rattle.layout.specs.Shaped.{Shaped}
 use Rattle.layout.proofs.Places.{extents-length, cuts-length, extent-at, cut-at}
 use Rattle.layout.proofs.Shaped.{in-shape-of-shaped}
 use Rattle.timetable.specs.Faces.{facesHeld}
-use Rattle.timetable.specs.Timetable.{ownerBy, otherExtents}
+use Rattle.timetable.specs.Timetable.{otherExtents}
 use Rattle.timetable.specs.Rows.{placesOf, elementsOf, RowTable, lineIn, slabLine, ExtentRange, SlabAsked, flattened, oneEach}
 use Rattle.timetable.proofs.Faces.{Cut, held-faces-add-up}
 use Rattle.timetable.proofs.Rows.{flat, product-set, places-inside}

@@ -14,6 +14,7 @@ use Rattle.numbers.specs.Products.{product}
 use Rattle.numbers.specs.Sums.{sum, same}
 use Rattle.multipartition.specs.Neighbours.{nextOwner}
 use Rattle.multipartition.specs.Plans.{Layout, inShape, InShape}
+use Rattle.multipartition.specs.Questions.{ownerBy}
 use Rattle.multipartition.specs.Tiles.{Inside, oneStepOn}
 use Rattle.multipartition.proofs.GridSums.{sum-cong, same-iff}
 use Rattle.multipartition.proofs.MixedRadix.{Positive}
@@ -21,7 +22,6 @@ use Rattle.multipartition.proofs.Neighbours.{neighbour-some, next-owner-below, 
 use Rattle.multipartition.proofs.Plans.{in-shape-iff, in-shape-moduli-positive, in-shape-neighbour-owns}
 use Rattle.multipartition.proofs.Tiles.{inside-length, inside-below, inside-set, step-up}
 use Rattle.timetable.specs.Faces.{thickness, facesHeld}
-use Rattle.timetable.specs.Timetable.{ownerBy}
 use Rattle.timetable.specs.Rows.{stepsOn, elementsOf, lineOver, lineIn}
 use Rattle.timetable.proofs.Rows.{flat, faces-by-lines}
 use Rattle.timetable.proofs.Timetable.{owner-by-below}

@@ -6,13 +6,14 @@ use Prim.Native.Nat.{ℕ, _+_, _≤_, _<_}
 use lib.ListN.{getD}
 use Rattle.numbers.specs.Products.{product}
 use Rattle.numbers.specs.Sums.{sum}
+use Rattle.multipartition.specs.Questions.{ownerBy}
 use Rattle.multipartition.specs.Rivals.{held}
 use Rattle.layout.specs.declared.Plan.{Plan}
 use Rattle.layout.specs.Plans.{layoutOf}
 use Rattle.layout.specs.Shaped.{Shaped}
 use Rattle.layout.proofs.Places.{cut-at}
 use Rattle.timetable.specs.Faces.{facesHeld}
-use Rattle.timetable.specs.Timetable.{ownerBy, otherExtents}
+use Rattle.timetable.specs.Timetable.{otherExtents}
 use Rattle.timetable.specs.Rows.{RowTable, slabLine, SlabAsked, flattened, oneEach}
 use Rattle.timetable.proofs.Grids.{shaped-flat, shaped-one-each, one-each-fits, slab-lines, slab-asked}
 use Rattle.timetable.proofs.Tables.{faces-are-tiles}

@@ -18,7 +18,7 @@ use Rattle.multipartition.specs.Answers.{answered}
 use Rattle.multipartition.specs.Jobs.{planAnswer}
 use Rattle.multipartition.specs.Neighbours.{nextOwner}
 use Rattle.multipartition.specs.Plans.{Job, Layout, tilesOf, inShape, InShape}
-use Rattle.multipartition.specs.Questions.{cutOf}
+use Rattle.multipartition.specs.Questions.{cutOf, ownerBy}
 use Rattle.multipartition.specs.Rivals.{held}
 use Rattle.multipartition.specs.Tiles.{Inside, oneStepOn}
 use Rattle.multipartition.proofs.GridSums.{sum-cong}
@@ -38,7 +38,7 @@ use Rattle.rivals.specs.Demand3.{ownerIn, EvenPlan}
 use Rattle.rivals.proofs.EvenPlans.{held-ext, owner-by}
 use Rattle.rivals.proofs.Demand3.{planner-even}
 use Rattle.rivals.proofs.DiagonalPlans.{diagonal-even}
-use Rattle.timetable.specs.Timetable.{ownerBy, neighbourBy, otherExtents, slabVisited, facesAt, Message, messageWith, lengthOf, sendsAfter, expectsBefore, Visit, visitOf, timetableAnswer, Asked, Sends, Expects, sentIn}
+use Rattle.timetable.specs.Timetable.{neighbourBy, otherExtents, slabVisited, facesAt, Message, messageWith, lengthOf, sendsAfter, expectsBefore, Visit, visitOf, timetableAnswer, Asked, Sends, Expects, sentIn}
 use Rattle.timetable.proofs.Faces.{Cut, held-faces-move, held-faces-add-up}
 use Rattle.timetable.proofs.Answers.{timetable-answered}
 

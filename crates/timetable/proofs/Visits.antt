@@ -12,7 +12,7 @@ use lib.ListN.{getD}
 use Rattle.multipartition.specs.Answers.{answered, refused}
 use Rattle.multipartition.specs.Neighbours.{nextOwner, neighbourAt}
 use Rattle.multipartition.specs.Plans.{Layout, between, inShape}
-use Rattle.multipartition.specs.Questions.{cutOf}
+use Rattle.multipartition.specs.Questions.{cutOf, ownerBy}
 use Rattle.multipartition.specs.Rivals.{held}
 use Rattle.multipartition.proofs.Neighbours.{neighbour-some}
 use Rattle.layout.specs.declared.Plan.{Plan}
@@ -22,7 +22,7 @@ use Rattle.layout.proofs.Places as places
 use Rattle.layout.proofs.Shaped.{in-shape-of-shaped}
 use Rattle.tiles.proofs.Numbering.{is-dimension, cut-at}
 use Rattle.timetable.specs.Faces.{facesHeld}
-use Rattle.timetable.specs.Timetable.{ownerBy, neighbourBy, otherExtents, slabVisited, facesAt, Message, messageWith, sendsAfter, expectsBefore, Visit, visitOf, timetableAnswer}
+use Rattle.timetable.specs.Timetable.{neighbourBy, otherExtents, slabVisited, facesAt, Message, messageWith, sendsAfter, expectsBefore, Visit, visitOf, timetableAnswer}
 
 module _ (plan : Plan) (k : ℕ) (lk : k < plan .d) where
   back : k + 1 - 1 ≡ k

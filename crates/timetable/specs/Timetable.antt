@@ -7,16 +7,11 @@ use Prim.Native.Nat.{ℕ, suc, _-_, _≤_, _<_}
 use lib.Dec.{leb, ltb, eqb}
 use Rattle.numbers.specs.Products.{product, without}
 use Rattle.multipartition.specs.Answers.{Answer, answered, refused, Check, checked}
-use Rattle.multipartition.specs.Owners.{ownerAt}
 use Rattle.multipartition.specs.Neighbours.{neighbourAt}
 use Rattle.multipartition.specs.Plans.{Layout, between, inShape}
-use Rattle.multipartition.specs.Questions.{cutOf, shapeCheck, dimensionCheck, rangeCheck}
+use Rattle.multipartition.specs.Questions.{cutOf, shapeCheck, dimensionCheck, rangeCheck, ownerBy}
 use Rattle.multipartition.specs.Rivals.{held}
 use Rattle.timetable.specs.Faces.{facesHeld}
-
--- the owner of a position, as the owner question answers
-abbrev pub ownerBy : Layout → List ℕ → ℕ
-ownerBy plan = ownerAt (plan .moduli) (plan .matrix)
 
 -- the neighbour of processor q along dimension k, as the neighbour question answers
 abbrev pub neighbourBy : Layout → ℕ → Bool → ℕ → Option ℕ
