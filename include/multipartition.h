@@ -123,7 +123,7 @@ enum multipartition_number {
     MULTIPARTITION_BAD_PLAN = 6,           /* the plan list has another length than 50, or its plan is out of shape */
     MULTIPARTITION_BAD_DIMENSION = 7,      /* the dimension is not 1 to d */
     MULTIPARTITION_OTHER_EXTENTS = 11,     /* the product of the extents of the other dimensions is above 4,294,967,295 */
-    MULTIPARTITION_OUT_OF_RANGE = 8,       /* a slab, element, tile, coordinate, step or processor out of range, or not as many coordinates as dimensions */
+    MULTIPARTITION_OUT_OF_RANGE = 8,       /* a slab, element, tile, coordinate, step or processor out of range, or a wrong number of coordinates */
     MULTIPARTITION_BAD_ANSWER_LENGTH = 9
 };
 
