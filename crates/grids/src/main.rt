@@ -212,7 +212,7 @@ fn put_four_slabs(out: &mut [u8], at: usize, plan: Plan) -> usize
     put_slab(out, next, plan, 1, 3)
 }
 
-// Ten elements in four slabs: the slabs and the one after them, and the slabs of elements 4, 5 and 10.
+// Ten elements in four slabs: the slabs and the one after them, and the slabs of elements 5, 6 and 10.
 fn put_slabs(out: &mut [u8], at: usize) -> usize
     ensures { λ r. ⌜ length (now (out .exit)) ≡ length (now (out .entry)) ⌝ }
 {
@@ -221,8 +221,8 @@ fn put_slabs(out: &mut [u8], at: usize) -> usize
     let planned = planner::plan_job(4, 2, &tens, &ones);
     let mut next = put_four_slabs(out, at, planned.plan);
     next = put_slab(out, next, planned.plan, 1, 4);
-    next = put_slab_of(out, next, planned.plan, 1, 4);
     next = put_slab_of(out, next, planned.plan, 1, 5);
+    next = put_slab_of(out, next, planned.plan, 1, 6);
     put_slab_of(out, next, planned.plan, 2, 10)
 }
 

@@ -2,10 +2,10 @@
 -- steps back, elements and slabs, owners and chains, said of what the calls answer about any plan.
 use mathlib.Core.Path.{_≡_, refl, ap, _∙_, subst, subst⁻¹}
 use mathlib.Core.Logic.{_↔_}
-use mathlib.Core.Bool.{Bool, true, not}
+use mathlib.Core.Bool.{Bool, true, not, cond}
 use mathlib.Core.List.{List, [], _∷_, List·Memᴰ}
 use mathlib.Core.Option.{Option, some}
-use Prim.Native.Nat.{ℕ, suc, _-_, _≤_, _<_}
+use Prim.Native.Nat.{ℕ, suc, _+_, _-_, _/_, _%_, _≤_, _<_}
 use native.Mathlib.Omega.{arith}
 use borrow.Author.Tests.{ltb-true, lt-ltb, not-false}
 use lib.Dec.{ltb, eqb}
@@ -14,7 +14,7 @@ use Rattle.multipartition.specs.Answers.{answered, Check}
 use Rattle.multipartition.specs.Owners.{ownerAt}
 use Rattle.multipartition.specs.Neighbours.{neighbourAt}
 use Rattle.multipartition.specs.Tiles.{Inside, isInside, tileNumber, positionOf, oneStepOn}
-use Rattle.multipartition.specs.Slabs.{slabStart, slabEnd, slabOf}
+use Rattle.multipartition.specs.Slabs.{slabStart, slabEnd, thickness, slabOf}
 use Rattle.multipartition.specs.Chains.{headsOf, nextsOf, Chain, Rising}
 use Rattle.multipartition.specs.Plans.{Layout, tilesOf, between, inShape}
 use Rattle.multipartition.specs.Questions.{shapeCheck, dimensionCheck, rangeCheck, lengthCheck, extentOf, cutOf, tileOwner, ownerAnswer, neighbourAnswer, numberAnswer, stepAnswer, positionAnswer, slabAnswer, slabOfAnswer, chainsAnswer}
@@ -22,7 +22,7 @@ use Rattle.multipartition.proofs.Tests.{between-true-iff}
 use Rattle.multipartition.proofs.Answers.{answers-iff}
 use Rattle.multipartition.proofs.Plans.{in-shape-iff}
 use Rattle.multipartition.proofs.Tiles.{inside-of-test, test-of-inside, number-low, number-high, position-inside, position-of-number, number-of-position, one-step-on-inside, step-back}
-use Rattle.multipartition.proofs.Slabs.{slabs-in-order, slab-start-last, slab-of-holds, slab-of-iff}
+use Rattle.multipartition.proofs.Slabs.{slab-start-last, slab-end-is, thickness-least, thickness-never-rises, thickness-differs-by-one, slabs-in-order, slab-of-holds, slab-of-iff}
 use Rattle.multipartition.proofs.Chains.{tilesOwned, owned-iff, chain-of, chain-rises}
 
 module _ (plan : Layout) where
@@ -144,6 +144,31 @@ module _ (plan : Layout) where
           let within : element < extentOf plan k = omega (arith, slab-start-last (extentOf plan k) (cutOf plan k) (cut .0), last, end) in
           slab-of-answered k element s .1
           (h .0, h .1, within, slab-of-iff (extentOf plan k) (cutOf plan k) (cut .0) (cut .1) s element (h .2) within .1 (start, end))
+
+  -- "the first (n modulo b) slabs have one element more than the others" (document 02, request d)
+  pub slab-elements : (k s : ℕ) (ends : ℕ × ℕ) → slabAnswer plan k s ≡ answered ends
+      → ends .1 ≡ ends .0 + (extentOf plan k / cutOf plan k + cond (ltb s (extentOf plan k % cutOf plan k)) 1 0)
+  slab-elements k s ends e =
+      subst (λ (x : ℕ × ℕ). x .1 ≡ x .0 + (extentOf plan k / cutOf plan k + cond (ltb s (extentOf plan k % cutOf plan k)) 1 0))
+      (slab-answered k s ends .0 e .3)
+      (slab-end-is (extentOf plan k) (cutOf plan k) s)
+
+  -- a slab is at least ⌊n / b⌋ thick, no thicker than one before it, and at most one thinner
+  pub slab-thicknesses : (k s t : ℕ) (before after : ℕ × ℕ) → s ≤ t → slabAnswer plan k s ≡ answered before → slabAnswer plan k t ≡ answered after
+      → (extentOf plan k / cutOf plan k ≤ after .1 - after .0) × (after .1 - after .0 ≤ before .1 - before .0) × (before .1 - before .0 ≤ after .1 - after .0 + 1)
+  slab-thicknesses k s t before after l e f =
+      let here : thickness n b s ≡ before .1 - before .0 = ap (λ (x : ℕ × ℕ). x .1 - x .0) (slab-answered k s before .0 e .3) in
+      let there : thickness n b t ≡ after .1 - after .0 = ap (λ (x : ℕ × ℕ). x .1 - x .0) (slab-answered k t after .0 f .3) in (
+        omega (arith, there, thickness-least n b t),
+        omega (arith, here, there, thickness-never-rises n b s t l),
+        omega (arith, here, there, thickness-differs-by-one n b s t),
+      )
+    where
+      n : ℕ
+      n = extentOf plan k
+
+      b : ℕ
+      b = cutOf plan k
 
   -- ---- owners, neighbours and chains
 

@@ -1,32 +1,76 @@
 -- The slabs of a dimension are non-empty, in order and cover its elements, and an element's slab is the one that holds it. All this rests on
--- three laws of slabStart: it starts at 0, ends at n, and rises.
+-- three laws of slabStart: it starts at 0, ends at n, and rises. How thick the slabs are rests on a fourth, where a slab ends. Only an element's
+-- slab by one division and the examples open the definition.
 use mathlib.Core.Path.{_≡_, refl, ap, _∙_}
+use mathlib.Core.Bool.{Bool, true, false, cond}
 use mathlib.Core.List.{[], _∷_}
 use mathlib.Core.Logic.{_↔_, ⊎-elim}
-use Prim.Native.Nat.{ℕ, zero, suc, _+_, _-_, _*_, _/_, _<_, _≤_}
-use native.Mathlib.Nat.{zero-div, zero-mul, mul-div-right, div-mul-le-self, lt-div-mul-add, le-div-iff-mul-le, div-lt-iff-lt-mul, mul-le-mul-right, eq-or-lt-of-le, le-of-eq}
+use Prim.Native.Nat.{ℕ, zero, suc, _+_, _-_, _*_, _/_, _%_, _<_, _≤_}
+use native.Mathlib.Nat.{le-refl, le-trans, mul-sub, min-le-left, min-le-right, min-eq-left, min-eq-right, mod-lt, div-add-mod, div-mul-le-self, lt-div-mul-add, le-div-iff-mul-le, div-lt-iff-lt-mul, mul-le-mul-right, eq-or-lt-of-le, le-of-eq, le-of-lt}
 use native.Mathlib.Omega.{arith}
 use lib.Dec.{ltb}
-use borrow.Author.Tests.{ltb-true, ltb-false}
+use borrow.Author.Tests.{ltb-true, ltb-false, le-ltb}
 use Rattle.multipartition.specs.Lists.{listOf}
-use Rattle.multipartition.specs.Slabs.{slabStart, slabEnd, slabFrom, slabOf, InSlab}
+use Rattle.multipartition.specs.Slabs.{slabStart, slabEnd, thickness, slabFrom, slabOf, InSlab}
 use Rattle.multipartition.proofs.Tests.{by-cond}
 
 -- ---- the laws of slabStart
 
 pub slab-start-zero : (n b : ℕ) → slabStart n b 0 ≡ 0
 unfolding slabStart
-slab-start-zero n b = ap (λ (x : ℕ). x / b) (zero-mul n) ∙ zero-div b
+slab-start-zero n b = omega (arith, min-le-left 0 (n % b))
 
 pub slab-start-last : (n b : ℕ) → 1 ≤ b → slabStart n b b ≡ n
 unfolding slabStart
-slab-start-last n b low = mul-div-right n low
+slab-start-last n b low = omega (arith, div-add-mod n b, min-eq-right (le-of-lt (mod-lt n low)))
+
+pub slab-end-is : (n b s : ℕ) → slabEnd n b s ≡ slabStart n b s + (n / b + cond (ltb s (n % b)) 1 0)
+unfolding slabStart
+slab-end-is n b s =
+    by-cond (λ (more : ℕ). slabEnd n b s ≡ slabStart n b s + (n / b + more)) (ltb s (n % b)) 1 0
+    (λ first. let l = ltb-true s (n % b) first in omega (arith, min-eq-left (le-of-lt l), min-eq-left l))
+    (λ behind. let l = ltb-false s (n % b) behind in omega (arith, min-eq-right l, min-eq-right {n = n % b} {m = suc s} (omega arith)))
+
+thin-low : (n b : ℕ) → 1 ≤ b → b ≤ n → 1 ≤ n / b
+thin-low n b low high = le-div-iff-mul-le low .1 (omega arith)
 
 pub slab-start-rises : (n b s : ℕ) → 1 ≤ b → b ≤ n → s < b → slabStart n b s < slabStart n b (suc s)
-unfolding slabStart
-slab-start-rises n b s low high l = le-div-iff-mul-le low .1 (omega (arith, div-mul-le-self (s * n) b))
+slab-start-rises n b s low high l = omega (arith, slab-end-is n b s, thin-low n b low high)
 
--- ---- what follows from them
+-- ---- how thick the slabs are
+
+-- one or none
+more-le : (t : Bool) → cond t 1 0 ≤ 1
+more-le true = le-refl 1
+more-le false = omega arith
+
+more-falls : (r s t : ℕ) → s ≤ t → cond (ltb t r) 1 0 ≤ cond (ltb s r) 1 0
+more-falls r s t l =
+    by-cond (λ (more : ℕ). cond (ltb t r) 1 0 ≤ more) (ltb s r) 1 0
+    (λ first. more-le (ltb t r))
+    (λ behind. rw (le-ltb t r (le-trans (ltb-false s r behind) l)) (le-refl 0))
+
+module _ (n b : ℕ) where
+  -- "the first (n modulo b) slabs have one element more than the others"
+  pub thick-slabs-first : (s : ℕ) → thickness n b s ≡ n / b + cond (ltb s (n % b)) 1 0
+  thick-slabs-first s = omega (arith, slab-end-is n b s)
+
+  pub thickness-least : (s : ℕ) → n / b ≤ thickness n b s
+  thickness-least s = omega (arith, thick-slabs-first s)
+
+  pub thickness-never-rises : (s t : ℕ) → s ≤ t → thickness n b t ≤ thickness n b s
+  thickness-never-rises s t l = omega (arith, thick-slabs-first s, thick-slabs-first t, more-falls (n % b) s t l)
+
+  pub thickness-differs-by-one : (s t : ℕ) → thickness n b s ≤ thickness n b t + 1
+  thickness-differs-by-one s t = omega (arith, thick-slabs-first s, thick-slabs-first t, more-le (ltb s (n % b)))
+
+  -- where b slabs of t elements fit, every slab has as many
+  pub slab-at-least : (s t : ℕ) → 1 ≤ b → b * t ≤ n → slabStart n b s + t ≤ slabEnd n b s
+  slab-at-least s t low fit =
+      let thin : t ≤ n / b = le-div-iff-mul-le low .1 (omega arith) in
+      omega (arith, slab-end-is n b s)
+
+-- ---- what follows from the first three
 
 module _ (n b : ℕ) (low : 1 ≤ b) (high : b ≤ n) where
   pub slab-nonempty : (s : ℕ) → s < b → slabStart n b s < slabEnd n b s
@@ -72,30 +116,64 @@ module _ (n b : ℕ) (low : 1 ≤ b) (high : b ≤ n) where
     λ h. slabs-disjoint (slabOf n b element) s element (slab-of-holds element le .0) ls (slab-of-holds element le .1) h,
   )
 
-  -- the slab of an element by one division
-  pub slab-of-division : (element : ℕ) → element < n → slabOf n b element ≡ ((element + 1) * b - 1) / n
+  -- the slab of an element by one division: among the first n modulo b slabs by their thickness
+  pub slab-of-thick : (element : ℕ) → element < n % b * (n / b + 1) → slabOf n b element ≡ element / (n / b + 1)
   unfolding slabStart
-  slab-of-division element l = slab-of-iff s element (div-lt-iff-lt-mul some .1 below) l .1 (starts, ends)
+  slab-of-thick element l = slab-of-iff s element (omega (arith, first, mod-lt n low)) within .1 (starts, ends)
     where
-      s : ℕ
-      s = ((element + 1) * b - 1) / n
+      thick : ℕ
+      thick = n / b + 1
 
-      some : zero < n
+      s : ℕ
+      s = element / thick
+
+      some : zero < thick
       some = omega arith
 
-      below : (element + 1) * b - 1 < b * n
-      below = omega (arith, mul-le-mul-right b l)
+      first : s < n % b
+      first = div-lt-iff-lt-mul some .1 l
 
-      starts : s * n / b ≤ element
-      starts = omega (arith, div-lt-iff-lt-mul {k = b} {x = s * n} {y = suc element} low .1 (omega (arith, div-mul-le-self ((element + 1) * b - 1) n)))
+      within : element < n
+      within = omega (arith, div-add-mod n b, mul-le-mul-right (n / b) (le-of-lt (mod-lt n low)))
 
-      ends : element < suc s * n / b
-      ends = le-div-iff-mul-le low .1 (omega (arith, lt-div-mul-add {a = (element + 1) * b - 1} some))
+      starts : slabStart n b s ≤ element
+      starts = omega (arith, min-le-left s (n % b), div-mul-le-self element thick)
 
--- "Extent 10 in 4 slabs starts them at 0, 2, 5, 7; element 4 is in slab 1, element 5 in slab 2"; 5 elements in 4 slabs leave none empty
-pub slab-examples : (listOf 0 4 (slabStart 10 4) ≡ 0 ∷ 2 ∷ 5 ∷ 7 ∷ [])
-    × (slabOf 10 4 4 ≡ 1)
-    × (slabOf 10 4 5 ≡ 2)
-    × (listOf 0 5 (slabStart 5 4) ≡ 0 ∷ 1 ∷ 2 ∷ 3 ∷ 5 ∷ [])
+      ends : element < slabEnd n b s
+      ends = omega (arith, min-eq-left first, lt-div-mul-add {a = element} some)
+
+  -- and behind these by that of the others
+  pub slab-of-thin : (element : ℕ) → n % b * (n / b + 1) ≤ element → element < n → slabOf n b element ≡ n % b + (element - n % b * (n / b + 1)) / (n / b)
+  unfolding slabStart
+  slab-of-thin element behind l = slab-of-iff s element inside l .1 (starts, ends)
+    where
+      thin : ℕ
+      thin = n / b
+
+      past : ℕ
+      past = element - n % b * (n / b + 1)
+
+      s : ℕ
+      s = n % b + past / thin
+
+      some : zero < thin
+      some = thin-low n b low high
+
+      few : past < (b - n % b) * thin
+      few = omega (arith, div-add-mod n b, mul-sub thin b (n % b))
+
+      inside : s < b
+      inside = omega (arith, mod-lt n low, div-lt-iff-lt-mul some .1 few)
+
+      starts : slabStart n b s ≤ element
+      starts = omega (arith, min-le-right s (n % b), div-mul-le-self past thin)
+
+      ends : element < slabEnd n b s
+      ends = omega (arith, min-eq-right {n = n % b} {m = suc s} (omega arith), lt-div-mul-add {a = past} some)
+
+-- "Ten elements in 4 slabs now start at 0, 3, 6, 8, and element 5 moves to slab 1"; 5 elements in 4 slabs leave none empty
+pub slab-examples : (listOf 0 4 (slabStart 10 4) ≡ 0 ∷ 3 ∷ 6 ∷ 8 ∷ [])
+    × (listOf 0 10 (slabOf 10 4) ≡ 0 ∷ 0 ∷ 0 ∷ 1 ∷ 1 ∷ 1 ∷ 2 ∷ 2 ∷ 3 ∷ 3 ∷ [])
+    × (listOf 0 5 (slabStart 5 4) ≡ 0 ∷ 2 ∷ 3 ∷ 4 ∷ 5 ∷ [])
 unfolding listOf slabStart slabFrom slabOf
-slab-examples = (refl, refl, refl, refl)
+slab-examples = (refl, refl, refl)

@@ -1,15 +1,20 @@
--- Slabs and their elements (document 01, "Tiles, slabs, chains"). An extent of n elements is cut into b slabs.
+-- Slabs and their elements (document 01, "Tiles, slabs, chains"; document 02, request d). An extent of n elements is cut into b slabs.
 use mathlib.Core.Bool.{cond}
-use Prim.Native.Nat.{ℕ, zero, suc, _*_, _/_, _≤_, _<_}
+use Prim.Native.Nat.{ℕ, zero, suc, _+_, _-_, _*_, _/_, _%_, min, _≤_, _<_}
 use lib.Dec.{ltb}
 
--- "Slab s of dimension k holds the elements from floor(s·nk/bk) up to but not including floor((s+1)·nk/bk)": the first element of slab s
+-- "the first (n modulo b) slabs have one element more than the others": the first element of slab s. Of the s slabs before it, min(s, n modulo b)
+-- have one more.
 unfoldable pub slabStart : ℕ → ℕ → ℕ → ℕ
-slabStart n b s = s * n / b
+slabStart n b s = s * (n / b) + min s (n % b)
 
 -- the element after the last one of slab s
 abbrev pub slabEnd : ℕ → ℕ → ℕ → ℕ
 slabEnd n b s = slabStart n b (suc s)
+
+-- the thickness of slab s: its number of elements
+abbrev pub thickness : ℕ → ℕ → ℕ → ℕ
+thickness n b s = slabEnd n b s - slabStart n b s
 
 -- the first slab, from slab s on and looking at `count` of them, that ends past an element
 unfoldable pub slabFrom : ℕ → ℕ → ℕ → ℕ → ℕ → ℕ

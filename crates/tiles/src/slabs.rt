@@ -20,20 +20,32 @@ pub enum SlabNumber {
     Refused { number: u32, place: u32 },
 }
 
-// The first element of slab s of n elements in b slabs. The product is at most 4096 * 1000000, which fits 32 bits.
+// The first element of slab s of n elements in b slabs: the first n % b slabs have one element more than the others.
 pub fn start(n: u32, b: u32, s: u32) -> u32
     requires { ⌜ (n ≤ 1000000) × (1 ≤ b) × (b ≤ 4096) × (s ≤ b) ⌝ }
     ensures { λ r. ⌜ r ≡ slabStart n b s ⌝ }
 {
-    s * n / b
+    let more = n % b;
+    let least = s * (n / b);
+    if s < more {
+        return least + s;
+    }
+    least + more
 }
 
-// The slab of an element of n elements in b slabs.
+// The slab of an element of n elements in b slabs: among the first n % b slabs, or behind them.
 fn holding(n: u32, b: u32, element: u32) -> u32
     requires { ⌜ (n ≤ 1000000) × (1 ≤ b) × (b ≤ 4096) × (b ≤ n) × (element < n) ⌝ }
     ensures { λ r. ⌜ r ≡ slabOf n b element ⌝ }
 {
-    ((element + 1) * b - 1) / n
+    let thin = n / b;
+    let thick = thin + 1;
+    let more = n % b;
+    let behind = more * thick;
+    if element < behind {
+        return element / thick;
+    }
+    more + (element - behind) / thin
 }
 
 // The elements of a slab along place k.

@@ -13,12 +13,12 @@ use Rattle.numbers.specs.Products.{product, without}
 use Rattle.numbers.specs.Sums.{sum, indicator, same}
 use Rattle.numbers.proofs.Sums.{count-one, sum-mul-left}
 use Rattle.multipartition.specs.Lists.{first, rest}
-use Rattle.multipartition.specs.Slabs.{slabStart}
+use Rattle.multipartition.specs.Slabs.{slabStart, thickness}
 use Rattle.multipartition.specs.Tiles.{Inside}
 use Rattle.multipartition.proofs.GridSums.{sum-cong, same-iff, total, total-ext, total-mul-left, sumOver-positions}
 use Rattle.multipartition.proofs.Slabs.{slab-start-zero, slab-start-last, slab-start-rises}
 use Rattle.multipartition.proofs.SlabSums.{slabSum, slabSum-total, slabSum-move, slabSum-ext, slabSum-mul-left, slabSum-swap}
-use Rattle.timetable.specs.Faces.{thickness, thicknesses, faceOf, facesHeld}
+use Rattle.timetable.specs.Faces.{thicknesses, faceOf, facesHeld}
 
 -- ---- thicknesses
 

@@ -80,16 +80,16 @@ pub figures : map answerTo questions
     ≡ answered (record { slab = 0; tiles = 1; sends = some (2, 16); expects = none })
     ∷ answered (record { slab = 1; tiles = 1; sends = none; expects = some (0, 16) })
     ∷ answered (record { slab = 1; tiles = 1; sends = some (2, 16); expects = none })
-    ∷ answered (record { slab = 0; tiles = 2; sends = some (4, 14); expects = none })
-    ∷ answered (record { slab = 0; tiles = 2; sends = some (5, 13); expects = none })
+    ∷ answered (record { slab = 0; tiles = 2; sends = some (4, 18); expects = none })
+    ∷ answered (record { slab = 0; tiles = 2; sends = some (5, 18); expects = none })
     ∷ answered (record { slab = 1; tiles = 2; sends = some (4, 14); expects = some (2, 14) })
-    ∷ answered (record { slab = 2; tiles = 2; sends = some (2, 14); expects = none })
+    ∷ answered (record { slab = 2; tiles = 2; sends = some (2, 9); expects = none })
     ∷ answered (record { slab = 1; tiles = 2; sends = some (2, 14); expects = some (4, 14) })
-    ∷ answered (record { slab = 0; tiles = 2; sends = none; expects = some (4, 14) })
+    ∷ answered (record { slab = 0; tiles = 2; sends = none; expects = some (4, 18) })
     ∷ answered (record { slab = 0; tiles = 0; sends = some (3, 0); expects = none })
     ∷ refused 11 0
     ∷ refused 7 0
-    ∷ answered (record { slab = 0; tiles = 1; sends = some (1, 2147450880); expects = none })
+    ∷ answered (record { slab = 0; tiles = 1; sends = some (1, 2147516415); expects = none })
     ∷ refused 8 0
     ∷ refused 8 0
     ∷ []

@@ -12,7 +12,7 @@ use Rattle.numbers.specs.Products.{product}
 use Rattle.numbers.specs.Sums.{sum}
 use Rattle.numbers.proofs.Sums.{sum-add-one, sum-front-le, sum-term-le}
 use Rattle.multipartition.specs.Owners.{ownerAt}
-use Rattle.multipartition.specs.Slabs.{slabStart}
+use Rattle.multipartition.specs.Slabs.{slabStart, thickness}
 use Rattle.multipartition.specs.Tiles.{Inside}
 use Rattle.multipartition.proofs.Tiles.{inside-below}
 use Rattle.layout.specs.declared.Plan.{Plan}
@@ -24,7 +24,7 @@ use Rattle.questions.specs.Bounds.{Small}
 use Rattle.walks.specs.declared.Coordinated.{Coordinated}
 use Rattle.walks.specs.declared.Stride.{Stride}
 use Rattle.walks.specs.Walks.{Strides, Steps}
-use Rattle.timetable.specs.Faces.{thickness, thicknesses}
+use Rattle.timetable.specs.Faces.{thicknesses}
 use Rattle.timetable.specs.Rows.{placesOf, stepsOn, lineOf, slabLine, HasPlaces, BelowCuts, LineAsked, SlabAsked, oneEach}
 use Rattle.timetable.proofs.Grids.{shaped-one-each, layout-cut, same-lengths, line-inside}
 use Rattle.timetable.proofs.Rows.{length-thicknesses, length-places}

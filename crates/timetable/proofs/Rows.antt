@@ -13,6 +13,7 @@ use Rattle.numbers.specs.Products.{product, without}
 use Rattle.numbers.specs.Sums.{sum, same}
 use Rattle.numbers.proofs.Sums.{sum-swap, sum-split, sum-to, sum-mul-left}
 use Rattle.multipartition.specs.Lists.{rest}
+use Rattle.multipartition.specs.Slabs.{thickness}
 use Rattle.multipartition.specs.Tiles.{Inside}
 use Rattle.multipartition.proofs.GridSums.{sum-cong, total, total-ext}
 use Rattle.multipartition.proofs.MixedRadix.{Positive, positive-of-places}
@@ -20,7 +21,7 @@ use Rattle.multipartition.proofs.SlabSums.{slabSum-flat, total-along}
 use Rattle.multipartition.proofs.Slabs.{slab-start-zero, slab-start-last}
 use Rattle.multipartition.proofs.Tiles.{inside-length, inside-below}
 use Rattle.layout.proofs.Lists.{product-add-one}
-use Rattle.timetable.specs.Faces.{thickness, thicknesses, faceOf, facesHeld}
+use Rattle.timetable.specs.Faces.{thicknesses, faceOf, facesHeld}
 use Rattle.timetable.specs.Rows.{placesOf}
 use Rattle.timetable.proofs.Faces.{held-faces, face-opposite}
 

@@ -14,7 +14,7 @@ use Rattle.numbers.specs.Sums.{sum, same}
 use Rattle.numbers.proofs.Sums.{same-yes, same-no}
 use Rattle.multipartition.specs.Lists.{rest}
 use Rattle.multipartition.specs.Rivals.{held}
-use Rattle.multipartition.specs.Slabs.{slabStart}
+use Rattle.multipartition.specs.Slabs.{slabStart, thickness}
 use Rattle.multipartition.specs.Tiles.{Inside}
 use Rattle.multipartition.proofs.GridSums.{held-total}
 use Rattle.multipartition.proofs.MixedRadix.{first-at, rest-at}
@@ -27,7 +27,7 @@ use Rattle.layout.proofs.Lists.{product-add-one}
 use Rattle.walks.specs.declared.Coordinated.{Coordinated}
 use Rattle.walks.specs.declared.Stride.{Stride}
 use Rattle.walks.specs.Walks.{Strides, Steps}
-use Rattle.timetable.specs.Faces.{thickness, thicknesses, faceOf, facesHeld}
+use Rattle.timetable.specs.Faces.{thicknesses, faceOf, facesHeld}
 use Rattle.timetable.specs.Rows.{stepsOn, elementsOf, RowTable, oneEach}
 use Rattle.timetable.proofs.Faces.{Cut, sum-thickness, held-faces}
 use Rattle.timetable.proofs.Rows.{length-thicknesses}

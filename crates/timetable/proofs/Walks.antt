@@ -7,7 +7,7 @@ use native.Mathlib.Numerals.{add-one}
 use native.Mathlib.Omega.{arith}
 use lib.ListN.{getD}
 use Rattle.multipartition.specs.Neighbours.{nextOwner}
-use Rattle.multipartition.specs.Slabs.{slabStart}
+use Rattle.multipartition.specs.Slabs.{slabStart, thickness}
 use Rattle.multipartition.proofs.Slabs.{slab-start-rises}
 use Rattle.layout.specs.declared.Plan.{Plan}
 use Rattle.layout.specs.Plans.{layoutOf}
@@ -16,7 +16,6 @@ use Rattle.walks.specs.declared.Coordinated.{Coordinated}
 use Rattle.walks.specs.declared.Stride.{Stride}
 use Rattle.walks.specs.Walks.{IsProcessor, Strides, Steps}
 use Rattle.walks.proofs.Walking.{next-is-processor, next-below}
-use Rattle.timetable.specs.Faces.{thickness}
 use Rattle.timetable.specs.Rows.{stepsOn}
 
 pub record Walk (plan : Plan) (c : ℕ) (up : Bool) (o t : ℕ) (at : Coordinated) (first : ℕ) : Type 0 where

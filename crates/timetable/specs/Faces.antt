@@ -1,17 +1,13 @@
 -- The faces of tiles (document 02, request b). Dimension k is counted from 0; lists run from dimension 1, as in multipartition.
 use mathlib.Core.Bool.{cond, _&&_}
 use mathlib.Core.List.{List, [], _∷_}
-use Prim.Native.Nat.{ℕ, _-_}
+use Prim.Native.Nat.{ℕ}
 use lib.Dec.{eqb}
 use lib.ListN.{getD}
 use Rattle.numbers.specs.Products.{product, without}
 use Rattle.multipartition.specs.Lists.{first, rest, sumOver}
-use Rattle.multipartition.specs.Slabs.{slabStart, slabEnd}
+use Rattle.multipartition.specs.Slabs.{thickness}
 use Rattle.multipartition.specs.Tiles.{positions}
-
--- a slab's thickness: its number of elements, where n elements are cut into b slabs
-abbrev pub thickness : ℕ → ℕ → ℕ → ℕ
-thickness n b s = slabEnd n b s - slabStart n b s
 
 -- the thicknesses of the tile at a position, one a dimension
 unfoldable pub thicknesses : List ℕ → List ℕ → List ℕ → List ℕ

@@ -10,10 +10,11 @@ use Rattle.numbers.specs.Products.{product}
 use Rattle.numbers.specs.Sums.{sum, same}
 use Rattle.multipartition.specs.Owners.{ownerAt}
 use Rattle.multipartition.specs.Neighbours.{nextOwner}
+use Rattle.multipartition.specs.Slabs.{thickness}
 use Rattle.layout.specs.declared.Plan.{Plan}
 use Rattle.layout.specs.Plans.{layoutOf}
 use Rattle.layout.specs.Shaped.{Shaped}
-use Rattle.timetable.specs.Faces.{thickness, thicknesses}
+use Rattle.timetable.specs.Faces.{thicknesses}
 
 -- the positions of a grid, numbered with the first dimension fastest: any order serves
 unfoldable pub placesOf : List ℕ → ℕ → List ℕ

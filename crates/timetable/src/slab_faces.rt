@@ -15,11 +15,12 @@ ghost use Rattle.numbers.specs.Sums.{sum};
 ghost use Rattle.multipartition.specs.Owners.{ownerAt};
 ghost use Rattle.multipartition.specs.Questions.{ownerBy};
 ghost use Rattle.multipartition.specs.Rivals.{held};
+ghost use Rattle.multipartition.specs.Slabs.{thickness};
 ghost use Rattle.layout.specs.Plans.{layoutOf};
 ghost use Rattle.layout.specs.Shaped.{Shaped};
 ghost use Rattle.questions.specs.Bounds.{Small};
 ghost use Rattle.walks.specs.Walks.{IsProcessor, Strides};
-ghost use Rattle.timetable.specs.Faces.{thickness, thicknesses, facesHeld};
+ghost use Rattle.timetable.specs.Faces.{thicknesses, facesHeld};
 ghost use Rattle.timetable.specs.Timetable.{otherExtents};
 ghost use Rattle.timetable.specs.Rows.{HasPlaces, BelowCuts, RowTable, lineOf, slabLine, LineAsked, SlabAsked, flattened, oneEach};
 

@@ -1,21 +1,39 @@
 -- `start` meets its contract.
-use mathlib.Core.Path.{refl}
-use native.Mathlib.Nat.{le-trans, mul-le-mul}
+use mathlib.Core.Path.{ap, sym}
+use Prim.Native.Nat.{ℕ, _+_, _*_, _/_, _≤_}
+use native.Mathlib.Nat.{le-trans, le-of-lt, mul-le-mul, div-le-self, min-eq-left, min-eq-right}
 use native.Mathlib.Omega.{arith}
 use borrow.Author.Needs.{needs}
 use Rattle.multipartition.specs.Slabs.{slabStart}
 use Rattle.tiles.proofs.slabs.start.Statement.{statement}
 use Rattle.tiles.proofs.slabs.start.Tie as tie
 
-mul-result : tie.Need-mul-result
-mul-result c = omega (arith, mul-le-mul {n₂ = 4096} (le-trans (c .pre .3) (c .pre .2)) (c .pre .0))
+-- no number overflows
+least-small : (n b s : ℕ) → n ≤ 1000000 → b ≤ 4096 → s ≤ b → s * (n / b) ≤ 4096000000
+least-small n b s small few l = mul-le-mul {n₂ = 4096} (le-trans l few) (le-trans (div-le-self n b) small)
 
-div-result : tie.Need-div-result
-div-result c = search needs
+rem-more : tie.Need-rem-more
+rem-more c = search needs
+
+div-least : tie.Need-div-least
+div-least c = search needs
+
+mul-least : tie.Need-mul-least
+mul-least c = omega (arith, least-small (c .args .n) (c .args .b) (c .args .s) (c .pre .0) (c .pre .2) (c .pre .3))
+
+add-result : tie.Need-add-result
+add-result c = let s = c .before in omega (arith, least-small (s .args .n) (s .args .b) (s .args .s) (s .pre .0) (s .pre .2) (s .pre .3))
 
 returns : tie.Need-returns
 unfolding slabStart
-returns c = refl
+returns c = let s = c .before in ap (λ (m : ℕ). s .args .s * (s .args .n / s .args .b) + m) (sym (min-eq-left (le-of-lt (c .if1 .taken))))
+
+add-result-2 : tie.Need-add-result-2
+add-result-2 c = let s = c .before in omega (arith, least-small (s .args .n) (s .args .b) (s .args .s) (s .pre .0) (s .pre .2) (s .pre .3))
+
+returns-2 : tie.Need-returns-2
+unfolding slabStart
+returns-2 c = let s = c .before in ap (λ (m : ℕ). s .args .s * (s .args .n / s .args .b) + m) (sym (min-eq-right (c .if1 .left)))
 
 pub start-spec : {M : Type 1} → statement M
-start-spec = tie.close (tie.spec mul-result div-result returns)
+start-spec = tie.close (tie.spec rem-more div-least mul-least add-result returns add-result-2 returns-2)
