@@ -123,14 +123,31 @@ static void answer_places(const uint32_t *plan)
     EXPECT(multipartition_neighbour(plan, n, 1234, 3, 0, ready(answer), MULTIPARTITION_NEIGHBOUR_LENGTH), 0);
     EXPECT(answer[MULTIPARTITION_NEIGHBOUR], 531);
     EXPECT(multipartition_slab(plan, n, 4, 217, ready(answer), MULTIPARTITION_SLAB_LENGTH), 0);
-    EXPECT(answer[MULTIPARTITION_SLAB_FIRST], 516657);
-    EXPECT(answer[MULTIPARTITION_SLAB_AFTER], 519038);
-    EXPECT(multipartition_slab_of(plan, n, 2, 56, ready(answer), MULTIPARTITION_SLAB_OF_LENGTH), 0);
-    EXPECT(answer[MULTIPARTITION_SLAB_OF], 11);
+    EXPECT(answer[MULTIPARTITION_SLAB_FIRST], 516677);
+    EXPECT(answer[MULTIPARTITION_SLAB_AFTER], 519058);
+    EXPECT(multipartition_slab_of(plan, n, 2, 34, ready(answer), MULTIPARTITION_SLAB_OF_LENGTH), 0);
+    EXPECT(answer[MULTIPARTITION_SLAB_OF], 6);
     EXPECT(multipartition_tile_number(plan, n, position, D, ready(answer), MULTIPARTITION_TILE_LENGTH), 0);
     EXPECT(answer[MULTIPARTITION_TILE], 1354579);
     EXPECT(multipartition_tile_position(plan, n, 1354579, ready(answer), D), 0);
     expect_five("a coordinate of a tile", answer, position);
+}
+
+/* The first slabs are the thick ones: 999,983 elements in 420 slabs are 383 of 2,381 elements and 37 of 2,380. */
+static void thick_slabs_first(const uint32_t *plan)
+{
+    const size_t n = MULTIPARTITION_PLAN_LENGTH;
+    const uint32_t slabs[4] = {0, 382, 383, 419}, edges[4][2] = {{0, 2381}, {909542, 911923}, {911923, 914303}, {997603, 999983}};
+    for (int i = 0; i < 4; i++) {
+        uint32_t answer[ROOM];
+        EXPECT(multipartition_slab(plan, n, 4, slabs[i], ready(answer), MULTIPARTITION_SLAB_LENGTH), 0);
+        EXPECT(answer[MULTIPARTITION_SLAB_FIRST], edges[i][0]);
+        EXPECT(answer[MULTIPARTITION_SLAB_AFTER], edges[i][1]);
+        for (int end = 0; end < 2; end++) {
+            EXPECT(multipartition_slab_of(plan, n, 4, edges[i][end] - (uint32_t)end, ready(answer), MULTIPARTITION_SLAB_OF_LENGTH), 0);
+            EXPECT(answer[MULTIPARTITION_SLAB_OF], slabs[i]);
+        }
+    }
 }
 
 static void step_places(const uint32_t *plan)
@@ -172,8 +189,8 @@ static void visit_places(const uint32_t *plan, uint32_t up, uint32_t step, const
 static void timetable_places(void)
 {
     const uint32_t four_extents[4] = {101, 67, 41, 211}, four_weights[4] = {3, 5, 17, 2};
-    const uint32_t first[8] = {13, 15, 1, 294, 2090, 0, 0, 0}, up[8] = {9, 15, 1, 330, 2090, 1, 294, 2090};
-    const uint32_t down[8] = {4, 15, 1, 294, 2082, 1, 330, 2082}, last[8] = {13, 15, 0, 0, 0, 1, 294, 2090};
+    const uint32_t first[8] = {13, 15, 1, 294, 2082, 0, 0, 0}, up[8] = {9, 15, 1, 330, 2082, 1, 294, 2082};
+    const uint32_t down[8] = {4, 15, 1, 294, 2090, 1, 330, 2090}, last[8] = {13, 15, 0, 0, 0, 1, 294, 2082};
     uint32_t plan[ROOM];
     EXPECT(multipartition_plan(420, 4, four_extents, 4, four_weights, 4, ready(plan), MULTIPARTITION_PLAN_LENGTH), 0);
     visit_places(plan, 0, 0, first);
@@ -274,6 +291,7 @@ int main(void)
     uint32_t plan[ROOM];
     plan_places(plan, multipartition_plan, &planned);
     answer_places(plan);
+    thick_slabs_first(plan);
     step_places(plan);
     step_lengths();
     timetable_places();

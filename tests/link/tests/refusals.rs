@@ -273,7 +273,7 @@ fn the_product_of_the_other_extents() {
         assert_eq!(timetable(list, 3, 1, 0, 0, &mut answer), 0);
         answer[2..5].to_vec()
     };
-    assert_eq!(sent(&grid(2, &[65535, 65537, 2])), [1, 1, 2_147_450_880]);
+    assert_eq!(sent(&grid(2, &[65535, 65537, 2])), [1, 1, 2_147_516_415]);
     assert_eq!(sent(&grid(2, &[1_000_000, 4294, 2])), [1, 1, 2_147_000_000]);
     let over: [&[u32]; 5] = [
         &[65536, 65536, 2],

@@ -1,4 +1,4 @@
-//! Slabs and their elements ("Tiles, slabs, chains").
+//! Slabs and their elements ("Tiles, slabs, chains"; document 02, request d).
 
 use crate::plan::{check_below, Plan};
 use crate::refusal::Refusal;
@@ -11,19 +11,32 @@ pub fn elements(plan: &Plan, dimension: u32, slab: u32) -> Result<(u32, u32), Re
     Ok((start(plan, k, slab), start(plan, k, slab + 1)))
 }
 
-/// "Slab s of dimension k holds the elements from floor(s*nk/bk) up to but not including
-/// floor((s+1)*nk/bk)."
+/// The first element of a slab, which is behind the slabs before it.
 pub fn start(plan: &Plan, k: usize, slab: u32) -> u32 {
-    (u64::from(slab) * u64::from(plan.extents[k]) / u64::from(plan.cuts[k])) as u32
+    (0..slab).map(|before| thickness(plan, k, before)).sum()
 }
 
-/// The slab of an element: the one whose elements it is among.
+/// How many elements a slab has: "the first (n modulo b) slabs have one element more than the
+/// others."
+pub fn thickness(plan: &Plan, k: usize, slab: u32) -> u32 {
+    let (n, b) = (plan.extents[k], plan.cuts[k]);
+    if slab < n % b {
+        n / b + 1
+    } else {
+        n / b
+    }
+}
+
+/// The slab of an element: the first one that ends behind it.
 pub fn slab_of(plan: &Plan, dimension: u32, element: u32) -> Result<u32, Refusal> {
     plan.check_shape()?;
     let k = plan.check_dimension(dimension)?;
     check_below(element, u128::from(plan.extents[k]))?;
-    let holds = |s: &u32| start(plan, k, *s) <= element && element < start(plan, k, s + 1);
-    let slab = (0..plan.cuts[k]).find(holds);
+    let mut end = 0;
+    let slab = (0..plan.cuts[k]).find(|&s| {
+        end += thickness(plan, k, s);
+        element < end
+    });
     Ok(slab.expect("the slabs of a dimension cover it"))
 }
 
@@ -37,10 +50,10 @@ mod tests {
     fn ten_elements_in_four_slabs() {
         let plan = plan_job(4, 2, &[10, 5], &[1, 1]).unwrap();
         let starts: Vec<u32> = (0..4).map(|s| elements(&plan, 1, s).unwrap().0).collect();
-        assert_eq!(starts, [0, 2, 5, 7]);
-        assert_eq!(elements(&plan, 1, 3), Ok((7, 10)));
-        assert_eq!(slab_of(&plan, 1, 4), Ok(1));
-        assert_eq!(slab_of(&plan, 1, 5), Ok(2));
+        assert_eq!(starts, [0, 3, 6, 8]);
+        assert_eq!(elements(&plan, 1, 3), Ok((8, 10)));
+        let slabs: Vec<u32> = (0..10).map(|e| slab_of(&plan, 1, e).unwrap()).collect();
+        assert_eq!(slabs, [0, 0, 0, 1, 1, 1, 2, 2, 3, 3]);
     }
 
     #[test]
@@ -50,7 +63,29 @@ mod tests {
             .map(|s| elements(&plan, 2, s).unwrap())
             .map(|(from, to)| to - from)
             .collect();
-        assert_eq!(sizes, [1, 1, 1, 2]);
+        assert_eq!(sizes, [2, 1, 1, 1]);
+    }
+
+    /// 1,000,000 is 4,096 times 244 and 576 more.
+    #[test]
+    fn the_most_elements_in_the_most_slabs() {
+        let plan = plan_job(4096, 2, &[1_000_000, 4096], &[1, 1]).unwrap();
+        assert_eq!(plan.cuts[..2], [4096, 4096]);
+        let ends = |slab| elements(&plan, 1, slab).unwrap();
+        assert_eq!((ends(0), ends(1)), ((0, 245), (245, 490)));
+        assert_eq!(ends(575), (140_875, 141_120));
+        assert_eq!(ends(576), (141_120, 141_364));
+        assert_eq!(ends(4094), (999_512, 999_756));
+        assert_eq!(ends(4095), (999_756, 1_000_000));
+        let figures = [
+            (141_119, 575),
+            (141_120, 576),
+            (141_364, 577),
+            (999_999, 4095),
+        ];
+        for (element, slab) in figures {
+            assert_eq!(slab_of(&plan, 1, element), Ok(slab));
+        }
     }
 
     #[test]

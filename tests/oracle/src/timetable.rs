@@ -4,7 +4,7 @@ use crate::neighbours::neighbour_of;
 use crate::owners::{check_processor, owner_of};
 use crate::plan::{check_below, Plan};
 use crate::refusal::{self, Refusal};
-use crate::slabs::start;
+use crate::slabs::thickness;
 use crate::tiles::position_of;
 
 /// The processor at the other end of a message, and the message's length in elements.
@@ -104,8 +104,7 @@ fn positions_in_slab(plan: &Plan, k: usize, slab: u32) -> impl Iterator<Item = V
 fn face(plan: &Plan, k: usize, position: &[u32]) -> u64 {
     let others = (0..plan.dimensions()).filter(|&j| j != k);
     others
-        .map(|j| start(plan, j, position[j] + 1) - start(plan, j, position[j]))
-        .map(u64::from)
+        .map(|j| u64::from(thickness(plan, j, position[j])))
         .product()
 }
 
@@ -127,7 +126,7 @@ mod tests {
     use super::*;
     use crate::diagonal::diagonal_job;
     use crate::plan::plan_job;
-    use crate::slabs::slab_of;
+    use crate::slabs::{slab_of, start};
 
     /// The plan of a grid whose weights are 1.
     fn grid(p: u32, extents: &[u32]) -> Plan {
@@ -201,9 +200,9 @@ mod tests {
         assert_eq!(plan.cuts, [2, 3, 6, 0, 0]);
         let told = visit(&plan, 2, true, 0, 0).unwrap();
         assert_eq!((told.slab, told.tiles), (0, 2));
-        assert_eq!((told.sends, told.expects), (message(4, 14), None));
+        assert_eq!((told.sends, told.expects), (message(4, 18), None));
         let sends = sent(&plan, 2, 0);
-        assert_eq!(sends[1], message(5, 13));
+        assert_eq!(sends[1], message(5, 18));
         let told = visit(&plan, 2, true, 1, 0).unwrap();
         assert_eq!((told.slab, told.expects), (1, message(2, 14)));
         assert_eq!(lengths(&plan, 2, 0).iter().sum::<u32>(), 81);
@@ -217,12 +216,12 @@ mod tests {
     fn slabs_of_unequal_thickness() {
         let plan = grid(4, &[5, 7, 9]);
         assert_eq!(plan.cuts, [2, 2, 2, 0, 0]);
-        assert_eq!(lengths(&plan, 3, 0), [6, 12, 9, 8]);
-        assert_eq!(lengths(&plan, 1, 0), [12, 15, 20, 16]);
+        assert_eq!(lengths(&plan, 3, 0), [12, 6, 8, 9]);
+        assert_eq!(lengths(&plan, 1, 0), [20, 16, 12, 15]);
         let plan = grid(4, &[10, 10]);
-        assert_eq!(lengths(&plan, 1, 0), [2, 3, 2, 3]);
-        assert_eq!(lengths(&plan, 1, 1), [3, 2, 3, 2]);
-        assert_eq!(lengths(&plan, 1, 2), [2, 3, 2, 3]);
+        assert_eq!(lengths(&plan, 1, 0), [3, 3, 2, 2]);
+        assert_eq!(lengths(&plan, 1, 1), [2, 3, 3, 2]);
+        assert_eq!(lengths(&plan, 1, 2), [2, 2, 3, 3]);
         assert_eq!(sent(&plan, 1, 3), [None; 4]);
     }
 
@@ -258,7 +257,7 @@ mod tests {
     fn the_largest_product() {
         let first = |extents| visit(&grid(2, extents), 3, true, 0, 0).map(|told| told.sends);
         assert_eq!(first(&[65536, 65536, 2]), Err(refusal::OTHER_EXTENTS));
-        assert_eq!(first(&[65535, 65537, 2]), Ok(message(1, 2_147_450_880)));
+        assert_eq!(first(&[65535, 65537, 2]), Ok(message(1, 2_147_516_415)));
         assert_eq!(first(&[1_000_000, 4295, 2]), Err(refusal::OTHER_EXTENTS));
         assert_eq!(first(&[1_000_000, 4294, 2]), Ok(message(1, 2_147_000_000)));
         // Products that 64 bits do not hold: 2 to the power 64 and 10 to the power 24.

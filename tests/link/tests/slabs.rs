@@ -1,0 +1,76 @@
+//! Slabs and their elements through the link (document 02, request d): "the first (n modulo b) slabs have one element
+//! more than the others."
+
+use link::calls::{plan, slab, slab_of};
+use link::plan_list::{PlanList, CUTS, PLAN_LENGTH};
+
+/// A plan with b slabs along dimension 1, which has n elements.
+fn cut(n: u32, b: u32) -> PlanList {
+    let mut list = [7; PLAN_LENGTH];
+    assert_eq!(plan(b, 2, &[n, b], &[1; 2], &mut list), 0);
+    assert_eq!(list[CUTS..CUTS + 2], [b, b]);
+    list
+}
+
+/// A slab's first element and the one after its last.
+fn ends(list: &PlanList, s: u32) -> [u32; 2] {
+    let mut answer = [77; 2];
+    assert_eq!(slab(list, 1, s, &mut answer), 0);
+    answer
+}
+
+fn slab_holding(list: &PlanList, element: u32) -> u32 {
+    let mut answer = [77];
+    assert_eq!(slab_of(list, 1, element, &mut answer), 0);
+    answer[0]
+}
+
+/// "Ten elements in 4 slabs now start at 0, 3, 6, 8, and element 5 moves to slab 1."
+#[test]
+fn ten_elements_in_four_slabs() {
+    let list = cut(10, 4);
+    let edges = [0, 1, 2, 3].map(|s| ends(&list, s));
+    assert_eq!(edges, [[0, 3], [3, 6], [6, 8], [8, 10]]);
+    let slabs: Vec<u32> = (0..10)
+        .map(|element| slab_holding(&list, element))
+        .collect();
+    assert_eq!(slabs, [0, 0, 0, 1, 1, 1, 2, 2, 3, 3]);
+}
+
+/// Every slab of every cut of extents to 60: where it starts and ends, and that each of its elements is said to be in it.
+#[test]
+fn every_cut_of_small_extents() {
+    for n in 1..=60 {
+        for b in 1..=n {
+            let list = cut(n, b);
+            let mut next = 0;
+            for s in 0..b {
+                let thickness = if s < n % b { n / b + 1 } else { n / b };
+                assert_eq!(ends(&list, s), [next, next + thickness], "{n} in {b}");
+                for element in next..next + thickness {
+                    assert_eq!(slab_holding(&list, element), s, "{n} in {b}");
+                }
+                next += thickness;
+            }
+            assert_eq!(next, n);
+        }
+    }
+}
+
+/// 1,000,000 is 4,096 times 244, and 576 more.
+#[test]
+fn the_most_elements_in_the_most_slabs() {
+    let list = cut(1_000_000, 4096);
+    assert_eq!(ends(&list, 0), [0, 245]);
+    assert_eq!(ends(&list, 1), [245, 490]);
+    assert_eq!(ends(&list, 575), [140_875, 141_120]);
+    assert_eq!(ends(&list, 576), [141_120, 141_364]);
+    assert_eq!(ends(&list, 4094), [999_512, 999_756]);
+    assert_eq!(ends(&list, 4095), [999_756, 1_000_000]);
+    for s in 0..4096 {
+        let [first, after] = ends(&list, s);
+        for element in [first, after - 1] {
+            assert_eq!(slab_holding(&list, element), s);
+        }
+    }
+}
