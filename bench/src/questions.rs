@@ -98,8 +98,9 @@ pub fn slab(plan: &[u32], dimension: u32, slab: u32, answer: &mut [u32]) -> Told
     let [first, after] = answer else {
         return Err(9);
     };
-    // At most 4,096 times 1,000,000.
-    (*first, *after) = (slab * extent / cut, (slab + 1) * extent / cut);
+    let (thin, more) = (extent / cut, extent % cut);
+    let start = |s: u32| s * thin + s.min(more);
+    (*first, *after) = (start(slab), start(slab + 1));
     Ok(())
 }
 
@@ -114,7 +115,14 @@ pub fn slab_of(plan: &[u32], dimension: u32, element: u32, answer: &mut [u32]) -
     let [slab] = answer else {
         return Err(9);
     };
-    *slab = ((element + 1) * cut - 1) / extent;
+    // The first slabs have one element more, as far as there are elements left over.
+    let (thin, more) = (extent / cut, extent % cut);
+    let behind = more * (thin + 1);
+    *slab = if element < behind {
+        element / (thin + 1)
+    } else {
+        more + (element - behind) / thin
+    };
     Ok(())
 }
 

@@ -156,21 +156,15 @@ impl Owners {
 #[inline]
 fn thicknesses(plan: &PlanList, k: usize) -> impl Iterator<Item = u32> {
     let (extent, cut) = (plan[EXTENTS + k], plan[CUTS + k]);
-    let mut start = 0;
-    (1..=cut).map(move |t| {
-        // At most 4,096 times 1,000,000.
-        let end = t * extent / cut;
-        let thickness = end - start;
-        start = end;
-        thickness
-    })
+    let (thin, more) = (extent / cut, extent % cut);
+    (0..cut).map(move |slab| thin + u32::from(slab < more))
 }
 
 /// How many elements one slab holds.
 #[inline]
 fn thickness(plan: &PlanList, k: usize, slab: u32) -> u32 {
     let (extent, cut) = (plan[EXTENTS + k], plan[CUTS + k]);
-    (slab + 1) * extent / cut - slab * extent / cut
+    extent / cut + u32::from(slab < extent % cut)
 }
 
 /// Of the dimensions left, the first of those with the most slabs.
@@ -357,7 +351,7 @@ mod tests {
         };
         let sent = |length| Ok([0, 1, 1, 1, length, 0, 0, 0]);
         assert_eq!(first([65_536, 65_536, 2]), Err(11));
-        assert_eq!(first([65_535, 65_537, 2]), sent(2_147_450_880));
+        assert_eq!(first([65_535, 65_537, 2]), sent(2_147_516_415));
         assert_eq!(first([1_000_000, 4295, 2]), Err(11));
         assert_eq!(first([1_000_000, 4294, 2]), sent(2_147_000_000));
     }
