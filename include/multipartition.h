@@ -12,6 +12,9 @@
  * - A plan list is any list of 50 numbers. One that multipartition_plan or multipartition_diagonal wrote is in shape, and its tiles are even: every
  *   processor owns equally many tiles in every slab of every dimension. One that is made or changed by hand is answered by the same formulas where
  *   it is in shape, and refused with 6 where it is not; of such a list it is not said that its tiles are even, whatever its kind.
+ * - In every plan list in shape the slabs of a dimension hold each of its elements once, and multipartition_slab_of names the slab that holds it. No
+ *   slab has more elements than one before it, nor fewer than the extent divided by the cut, rounded down; two of them differ by at most one. The
+ *   edges are not in the list: an archive of before request d has others for the same list, so link one archive in all programs of a run.
  * - The answers of multipartition_timetable fit together, for every plan list in shape: what a processor sends after a step is exactly what its
  *   receiver expects before the next, and the receiver names the sender; except after the last step, the lengths that all processors send after a
  *   step add up to the product of the extents of the other dimensions; no length is cut off to 32 bits. For a list that multipartition_plan or
@@ -173,7 +176,8 @@ uint64_t multipartition_neighbour(const uint32_t *plan, size_t plan_length,
                                   uint32_t processor, uint32_t dimension, uint32_t up,
                                   uint32_t *answer, size_t answer_length);
 
-/* Which elements of a dimension a slab holds. Refused with 6, 7, 8, 9. */
+/* Which elements of a dimension a slab holds. The first (extent modulo cut) slabs have one element more than the others: ten elements in 4 slabs
+ * start at 0, 3, 6, 8. Refused with 6, 7, 8, 9. */
 uint64_t multipartition_slab(const uint32_t *plan, size_t plan_length,
                              uint32_t dimension, uint32_t slab,
                              uint32_t *answer, size_t answer_length);
