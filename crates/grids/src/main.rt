@@ -1,4 +1,4 @@
-// Runs the grids of document 01 that are not starred, the examples beside its table, and figures of the timetable, on the calls. What it prints is held to the file stdout.
+// Runs the grids of document 01 that are not starred, the examples beside its table, the slabs of document 02's request d, and figures of the timetable, on the calls. What it prints is held to the file stdout.
 // Each function writes its lines into a lent list from a place on, and answers the place after them.
 ghost use mathlib.Core.Path.{_≡_};
 ghost use lib.ListN.{length};

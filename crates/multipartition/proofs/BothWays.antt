@@ -146,9 +146,9 @@ module _ (plan : Layout) where
           (h .0, h .1, within, slab-of-iff (extentOf plan k) (cutOf plan k) (cut .0) (cut .1) s element (h .2) within .1 (start, end))
 
   -- "the first (n modulo b) slabs have one element more than the others" (document 02, request d)
-  pub slab-elements : (k s : ℕ) (ends : ℕ × ℕ) → slabAnswer plan k s ≡ answered ends
+  pub slab-end-answered : (k s : ℕ) (ends : ℕ × ℕ) → slabAnswer plan k s ≡ answered ends
       → ends .1 ≡ ends .0 + (extentOf plan k / cutOf plan k + cond (ltb s (extentOf plan k % cutOf plan k)) 1 0)
-  slab-elements k s ends e =
+  slab-end-answered k s ends e =
       subst (λ (x : ℕ × ℕ). x .1 ≡ x .0 + (extentOf plan k / cutOf plan k + cond (ltb s (extentOf plan k % cutOf plan k)) 1 0))
       (slab-answered k s ends .0 e .3)
       (slab-end-is (extentOf plan k) (cutOf plan k) s)

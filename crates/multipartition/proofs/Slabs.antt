@@ -1,7 +1,7 @@
 -- The slabs of a dimension are non-empty, in order and cover its elements, and an element's slab is the one that holds it. All this rests on
--- three laws of slabStart: it starts at 0, ends at n, and rises. How thick the slabs are rests on a fourth, where a slab ends. Only an element's
--- slab by one division and the examples open the definition.
-use mathlib.Core.Path.{_≡_, refl, ap, _∙_}
+-- three laws of slabStart: it starts at 0, ends at n, and rises. The third, and how thick the slabs are, rest on where a slab ends. Beside these
+-- laws only an element's slab by one division and the examples open the definition.
+use mathlib.Core.Path.{_≡_, refl, ap}
 use mathlib.Core.Bool.{Bool, true, false, cond}
 use mathlib.Core.List.{[], _∷_}
 use mathlib.Core.Logic.{_↔_, ⊎-elim}
@@ -24,6 +24,7 @@ pub slab-start-last : (n b : ℕ) → 1 ≤ b → slabStart n b b ≡ n
 unfolding slabStart
 slab-start-last n b low = omega (arith, div-add-mod n b, min-eq-right (le-of-lt (mod-lt n low)))
 
+-- where a slab ends: "the first (n modulo b) slabs have one element more than the others"
 pub slab-end-is : (n b s : ℕ) → slabEnd n b s ≡ slabStart n b s + (n / b + cond (ltb s (n % b)) 1 0)
 unfolding slabStart
 slab-end-is n b s =
@@ -31,7 +32,8 @@ slab-end-is n b s =
     (λ first. let l = ltb-true s (n % b) first in omega (arith, min-eq-left (le-of-lt l), min-eq-left l))
     (λ behind. let l = ltb-false s (n % b) behind in omega (arith, min-eq-right l, min-eq-right {n = n % b} {m = suc s} (omega arith)))
 
-thin-low : (n b : ℕ) → 1 ≤ b → b ≤ n → 1 ≤ n / b
+-- the others have an element too
+pub thin-low : (n b : ℕ) → 1 ≤ b → b ≤ n → 1 ≤ n / b
 thin-low n b low high = le-div-iff-mul-le low .1 (omega arith)
 
 pub slab-start-rises : (n b s : ℕ) → 1 ≤ b → b ≤ n → s < b → slabStart n b s < slabStart n b (suc s)
@@ -51,26 +53,22 @@ more-falls r s t l =
     (λ behind. rw (le-ltb t r (le-trans (ltb-false s r behind) l)) (le-refl 0))
 
 module _ (n b : ℕ) where
-  -- "the first (n modulo b) slabs have one element more than the others"
-  pub thick-slabs-first : (s : ℕ) → thickness n b s ≡ n / b + cond (ltb s (n % b)) 1 0
-  thick-slabs-first s = omega (arith, slab-end-is n b s)
-
   pub thickness-least : (s : ℕ) → n / b ≤ thickness n b s
-  thickness-least s = omega (arith, thick-slabs-first s)
+  thickness-least s = omega (arith, slab-end-is n b s)
 
   pub thickness-never-rises : (s t : ℕ) → s ≤ t → thickness n b t ≤ thickness n b s
-  thickness-never-rises s t l = omega (arith, thick-slabs-first s, thick-slabs-first t, more-falls (n % b) s t l)
+  thickness-never-rises s t l = omega (arith, slab-end-is n b s, slab-end-is n b t, more-falls (n % b) s t l)
 
   pub thickness-differs-by-one : (s t : ℕ) → thickness n b s ≤ thickness n b t + 1
-  thickness-differs-by-one s t = omega (arith, thick-slabs-first s, thick-slabs-first t, more-le (ltb s (n % b)))
+  thickness-differs-by-one s t = omega (arith, slab-end-is n b s, slab-end-is n b t, more-le (ltb s (n % b)))
 
-  -- where b slabs of t elements fit, every slab has as many
+  -- where b slabs of t elements fit, every slab has at least t
   pub slab-at-least : (s t : ℕ) → 1 ≤ b → b * t ≤ n → slabStart n b s + t ≤ slabEnd n b s
   slab-at-least s t low fit =
       let thin : t ≤ n / b = le-div-iff-mul-le low .1 (omega arith) in
       omega (arith, slab-end-is n b s)
 
--- ---- what follows from the first three
+-- ---- what follows from where slabs start: at 0, at n, and rising
 
 module _ (n b : ℕ) (low : 1 ≤ b) (high : b ≤ n) where
   pub slab-nonempty : (s : ℕ) → s < b → slabStart n b s < slabEnd n b s

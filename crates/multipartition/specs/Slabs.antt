@@ -8,7 +8,7 @@ use lib.Dec.{ltb}
 unfoldable pub slabStart : ℕ → ℕ → ℕ → ℕ
 slabStart n b s = s * (n / b) + min s (n % b)
 
--- the element after the last one of slab s
+-- the element after the last one of slab s, which holds the elements from its start "up to but not including" this one
 abbrev pub slabEnd : ℕ → ℕ → ℕ → ℕ
 slabEnd n b s = slabStart n b (suc s)
 

@@ -1,10 +1,10 @@
 -- `holding` meets its contract: an element's slab by one division.
 use mathlib.Core.Path.{sym}
 use Prim.Native.Nat.{_+_, _-_, _*_, _/_, _%_, _≤_}
-use native.Mathlib.Nat.{mul-le-mul, div-le-self, le-div-iff-mul-le, mod-lt}
+use native.Mathlib.Nat.{mul-le-mul, div-le-self, mod-lt}
 use native.Mathlib.Omega.{arith}
 use borrow.Author.Needs.{needs}
-use Rattle.multipartition.proofs.Slabs.{slab-of-thick, slab-of-thin}
+use Rattle.multipartition.proofs.Slabs.{thin-low, slab-of-thick, slab-of-thin}
 use Rattle.tiles.proofs.slabs.holding.Statement.{statement}
 use Rattle.tiles.proofs.slabs.holding.Tie as tie
 
@@ -30,7 +30,7 @@ returns : tie.Need-returns
 returns c = let s = c .before in sym (slab-of-thick (s .args .n) (s .args .b) (s .pre .1) (s .pre .3) (s .args .element) (c .if1 .taken))
 
 div-result-2 : tie.Need-div-result-2
-div-result-2 c = let s = c .before in le-div-iff-mul-le {k = s .args .b} {x = 1} (s .pre .1) .1 (omega arith)
+div-result-2 c = let s = c .before in thin-low (s .args .n) (s .args .b) (s .pre .1) (s .pre .3)
 
 add-result : tie.Need-add-result
 add-result c =
