@@ -67,10 +67,14 @@ fn the_most_elements_in_the_most_slabs() {
     assert_eq!(ends(&list, 576), [141_120, 141_364]);
     assert_eq!(ends(&list, 4094), [999_512, 999_756]);
     assert_eq!(ends(&list, 4095), [999_756, 1_000_000]);
+    let mut next = 0;
     for s in 0..4096 {
-        let [first, after] = ends(&list, s);
-        for element in [first, after - 1] {
+        let after = next + if s < 576 { 245 } else { 244 };
+        assert_eq!(ends(&list, s), [next, after]);
+        for element in [next, after - 1] {
             assert_eq!(slab_holding(&list, element), s);
         }
+        next = after;
     }
+    assert_eq!(next, 1_000_000);
 }

@@ -11,7 +11,7 @@ pub fn elements(plan: &Plan, dimension: u32, slab: u32) -> Result<(u32, u32), Re
     Ok((start(plan, k, slab), start(plan, k, slab + 1)))
 }
 
-/// The first element of a slab, which is behind the slabs before it.
+/// The first element of a slab: it comes after all elements of the slabs before it.
 pub fn start(plan: &Plan, k: usize, slab: u32) -> u32 {
     (0..slab).map(|before| thickness(plan, k, before)).sum()
 }
@@ -27,15 +27,16 @@ pub fn thickness(plan: &Plan, k: usize, slab: u32) -> u32 {
     }
 }
 
-/// The slab of an element: the first one that ends behind it.
+/// The slab of an element: the one whose elements it is among, found by going through the slabs.
 pub fn slab_of(plan: &Plan, dimension: u32, element: u32) -> Result<u32, Refusal> {
     plan.check_shape()?;
     let k = plan.check_dimension(dimension)?;
     check_below(element, u128::from(plan.extents[k]))?;
-    let mut end = 0;
+    let mut next = 0;
     let slab = (0..plan.cuts[k]).find(|&s| {
-        end += thickness(plan, k, s);
-        element < end
+        let first = next;
+        next += thickness(plan, k, s);
+        (first..next).contains(&element)
     });
     Ok(slab.expect("the slabs of a dimension cover it"))
 }
