@@ -12,9 +12,9 @@
  * - A plan list is any list of 50 numbers. One that multipartition_plan or multipartition_diagonal wrote is in shape, and its tiles are even: every
  *   processor owns equally many tiles in every slab of every dimension. One that is made or changed by hand is answered by the same formulas where
  *   it is in shape, and refused with 6 where it is not; of such a list it is not said that its tiles are even, whatever its kind.
- * - In every plan list in shape the slabs of a dimension hold each of its elements once, and multipartition_slab_of names the slab that holds it. No
- *   slab has more elements than one before it, nor fewer than the extent divided by the cut, rounded down; two of them differ by at most one. The
- *   edges are not in the list: an archive of before request d has others for the same list, so link one archive in all programs of a run.
+ * - In every plan list in shape the slabs of a dimension hold each of its elements once, and multipartition_slab_of names the slab that holds it. The
+ *   first (extent modulo cut) slabs have one element more than the others; so no slab has more elements than one before it, nor fewer than the extent
+ *   divided by the cut, rounded down, and two of them differ by at most one.
  * - The answers of multipartition_timetable fit together, for every plan list in shape: what a processor sends after a step is exactly what its
  *   receiver expects before the next, and the receiver names the sender; except after the last step, the lengths that all processors send after a
  *   step add up to the product of the extents of the other dimensions; no length is cut off to 32 bits. For a list that multipartition_plan or
@@ -28,7 +28,8 @@
  *
  * What a caller must see to, since C does not check it: every pointer is not null, also for a list of length 0, points to as many numbers as
  * its length says, no answer list shares a place with another list of the call, and the thread has the stack that the call needs, which is
- * measured and not proved (MULTIPARTITION_PLAN_STACK and the like below).
+ * measured and not proved (MULTIPARTITION_PLAN_STACK and the like below). Where slabs begin is not in a plan list, and earlier archives had other
+ * edges for the same list: all programs of a run link one archive, and data stored by slab are read by the edges that they were written with.
  */
 #ifndef MULTIPARTITION_H
 #define MULTIPARTITION_H
