@@ -1,6 +1,6 @@
 -- The slabs of a dimension are non-empty, in order and cover its elements, and an element's slab is the one that holds it. All this rests on
 -- three laws of slabStart: it starts at 0, ends at n, and rises. The third, and how thick the slabs are, rest on where a slab ends. Beside these
--- laws only an element's slab by one division and the examples open the definition.
+-- laws only an element's slab by one division and the examples open the definition here.
 use mathlib.Core.Path.{_≡_, refl, ap}
 use mathlib.Core.Bool.{Bool, true, false, cond}
 use mathlib.Core.List.{[], _∷_}

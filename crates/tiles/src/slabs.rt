@@ -3,7 +3,7 @@ use crate::dimensions::has_dimension;
 use layout::Plan;
 ghost use mathlib.Core.Path.{_≡_};
 ghost use Prim.Native.Nat.{_+_, _<_, _≤_};
-ghost use Rattle.multipartition.specs.Slabs.{slabStart, slabOf};
+ghost use Rattle.multipartition.specs.Slabs.{slabStart, thickness, slabOf};
 ghost use Rattle.multipartition.specs.Questions.{slabAnswer, slabOfAnswer};
 ghost use Rattle.layout.specs.Plans.{layoutOf};
 ghost use Rattle.layout.specs.Shaped.{Shaped};
@@ -21,7 +21,7 @@ pub enum SlabNumber {
 }
 
 // The first element of slab s of n elements in b slabs: the first n % b slabs have one element more than the others. s * (n / b) is at most n.
-pub fn start(n: u32, b: u32, s: u32) -> u32
+fn start(n: u32, b: u32, s: u32) -> u32
     requires { ⌜ (n ≤ 1000000) × (1 ≤ b) × (b ≤ 4096) × (s ≤ b) ⌝ }
     ensures { λ r. ⌜ r ≡ slabStart n b s ⌝ }
 {
@@ -31,6 +31,18 @@ pub fn start(n: u32, b: u32, s: u32) -> u32
         return least + s;
     }
     least + more
+}
+
+// The number of elements of slab s of n elements in b slabs.
+pub fn thickness(n: u32, b: u32, s: u32) -> u32
+    requires { ⌜ (n ≤ 1000000) × (1 ≤ b) ⌝ }
+    ensures { λ r. ⌜ r ≡ thickness n b s ⌝ }
+{
+    let thin = n / b;
+    if s < n % b {
+        return thin + 1;
+    }
+    thin
 }
 
 // The slab of an element of n elements in b slabs: among the first n % b slabs, or behind them.

@@ -2,7 +2,7 @@
 use mathlib.Core.Path.{_≡_, refl, sym, ap, ap₂, _∙_, subst, subst⁻¹}
 use mathlib.Core.Bool.{true}
 use mathlib.Core.List.{List}
-use Prim.Native.Nat.{ℕ, _+_, _-_, _*_, _≤_, _<_}
+use Prim.Native.Nat.{ℕ, _+_, _*_, _≤_, _<_}
 use native.Mathlib.Nat.{le-trans, mul-le-mul-right, one-mul}
 use native.Mathlib.Decide.{ℕ-discrete}
 use native.Mathlib.Omega.{arith}
@@ -12,7 +12,7 @@ use Rattle.numbers.specs.Products.{product}
 use Rattle.numbers.specs.Sums.{sum}
 use Rattle.numbers.proofs.Sums.{sum-add-one, sum-front-le, sum-term-le}
 use Rattle.multipartition.specs.Owners.{ownerAt}
-use Rattle.multipartition.specs.Slabs.{slabStart, thickness}
+use Rattle.multipartition.specs.Slabs.{thickness}
 use Rattle.multipartition.specs.Tiles.{Inside}
 use Rattle.multipartition.proofs.Tiles.{inside-below}
 use Rattle.layout.specs.declared.Plan.{Plan}
@@ -28,7 +28,7 @@ use Rattle.timetable.specs.Faces.{thicknesses}
 use Rattle.timetable.specs.Rows.{placesOf, stepsOn, lineOf, slabLine, HasPlaces, BelowCuts, LineAsked, SlabAsked, oneEach}
 use Rattle.timetable.proofs.Grids.{shaped-one-each, layout-cut, same-lengths, line-inside}
 use Rattle.timetable.proofs.Rows.{length-thicknesses, length-places}
-use Rattle.timetable.proofs.Walks.{Walk, walk-side, walk-more}
+use Rattle.timetable.proofs.Walks.{Walk, walk-more}
 use Rattle.timetable.proofs.Tables.{thickness-le, thickness-of-one, volume-more, volume-le, volume-low, volume-of-ones}
 
 -- ---- the volume of a tile
@@ -96,29 +96,29 @@ count-more grid c table o t l =
     ∙ one-mul (getD table (stepsOn (layoutOf grid .moduli) (layoutOf grid .matrix) c true t o) 0))
 
 -- the walk along a line with the sums of its first t slabs
-pub record Walked (grid : Plan) (c : ℕ) (elements counts : List ℕ) (o t : ℕ) (at : Coordinated) (first faces tiles : ℕ) : Type 0 where
-  pub walk : Walk grid c true o t at first
+pub record Walked (grid : Plan) (c : ℕ) (elements counts : List ℕ) (o t : ℕ) (at : Coordinated) (faces tiles : ℕ) : Type 0 where
+  pub walk : Walk grid c true o t at
   pub faces-are : faces ≡ lineOf grid c elements t o
   pub tiles-are : tiles ≡ lineOf (oneEach grid) c counts t o
 
-pub walked-none : (grid : Plan) (c : ℕ) (elements counts : List ℕ) (o : ℕ) (from : Coordinated) (first : ℕ) → Walk grid c true o 0 from first
-    → Walked grid c elements counts o 0 from first 0 0
+pub walked-none : (grid : Plan) (c : ℕ) (elements counts : List ℕ) (o : ℕ) (from : Coordinated) → Walk grid c true o 0 from
+    → Walked grid c elements counts o 0 from 0 0
 unfolding sum
-walked-none grid c elements counts o from first w = record { walk = w; faces-are = refl; tiles-are = refl }
+walked-none grid c elements counts o from w = record { walk = w; faces-are = refl; tiles-are = refl }
 
 module _ (grid : Plan) (s : Shaped grid) (c : ℕ) (lc : c < grid .d) (elements counts : List ℕ) (o t : ℕ) (l : t < getD (grid .cuts) c 0)
-    (at : Coordinated) (first faces tiles : ℕ) (w : Walked grid c elements counts o t at first faces tiles)
-    (after : ℕ) (e : after ≡ slabStart (getD (grid .extents) c 0) (getD (grid .cuts) c 0) (t + 1)) where
-  faces-more : faces + (after - first) * getD elements (at .number) 0 ≡ lineOf grid c elements (t + 1) o
+    (at : Coordinated) (faces tiles : ℕ) (w : Walked grid c elements counts o t at faces tiles)
+    (side : ℕ) (e : side ≡ thickness (getD (grid .extents) c 0) (getD (grid .cuts) c 0) t) where
+  faces-more : faces + side * getD elements (at .number) 0 ≡ lineOf grid c elements (t + 1) o
   faces-more =
-      ap₂ (λ (m n : ℕ). faces + m * getD elements n 0) (walk-side grid s c lc true o t at first (w .walk) after e) (w .walk .stands .number-is)
+      ap₂ (λ (m n : ℕ). faces + m * getD elements n 0) e (w .walk .stands .number-is)
       ∙ ap (λ (m : ℕ). m + thickness (getD (grid .extents) c 0) (getD (grid .cuts) c 0) t * getD elements (stepsOn (layoutOf grid .moduli) (layoutOf grid .matrix) c true t o) 0) (w .faces-are)
       ∙ sym (line-more grid c elements o t)
 
   tiles-more : tiles + getD counts (at .number) 0 ≡ lineOf (oneEach grid) c counts (t + 1) o
   tiles-more = ap₂ (λ (m n : ℕ). m + getD counts n 0) (w .tiles-are) (w .walk .stands .number-is) ∙ sym (count-more grid c counts o t l)
 
-  pub walked-faces-fit : lineOf grid c elements (getD (grid .cuts) c 0) o ≤ 4294967295 → faces + (after - first) * getD elements (at .number) 0 ≤ 4294967295
+  pub walked-faces-fit : lineOf grid c elements (getD (grid .cuts) c 0) o ≤ 4294967295 → faces + side * getD elements (at .number) 0 ≤ 4294967295
   walked-faces-fit fits = subst⁻¹ (λ (n : ℕ). n ≤ 4294967295) faces-more (le-trans (line-within grid c elements o t l) fits)
 
   pub walked-tiles-fit : lineOf (oneEach grid) c counts (getD (grid .cuts) c 0) o ≤ 4294967295 → tiles + getD counts (at .number) 0 ≤ 4294967295
@@ -126,9 +126,9 @@ module _ (grid : Plan) (s : Shaped grid) (c : ℕ) (lc : c < grid .d) (elements 
   walked-tiles-fit fits = subst⁻¹ (λ (n : ℕ). n ≤ 4294967295) tiles-more (le-trans (line-within (oneEach grid) c counts o t l) fits)
 
   pub walked-more : (up : Stride) (to : Coordinated) → Strides grid c true up → Steps up at to
-      → Walked grid c elements counts o (t + 1) to after (faces + (after - first) * getD elements (at .number) 0) (tiles + getD counts (at .number) 0)
+      → Walked grid c elements counts o (t + 1) to (faces + side * getD elements (at .number) 0) (tiles + getD counts (at .number) 0)
   walked-more up to strides steps = record {
-    walk = walk-more grid s c lc true o t at first (w .walk) after e up to strides steps;
+    walk = walk-more grid s c lc true o t at (w .walk) up to strides steps;
     faces-are = faces-more;
     tiles-are = tiles-more;
   }

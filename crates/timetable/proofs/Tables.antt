@@ -1,5 +1,5 @@
 -- What the loops over thicknesses, elements and lines keep: products of thicknesses stay within those of the extents, and elements within one extent.
-use mathlib.Core.Path.{_≡_, refl, sym, ap, ap₂, _∙_, subst, subst⁻¹}
+use mathlib.Core.Path.{_≡_, refl, sym, ap, ap₂, _∙_, subst⁻¹}
 use mathlib.Core.List.{List, [], _∷_}
 use mathlib.Core.Bool.{false}
 use Prim.Native.Nat.{ℕ, zero, suc, _+_, _-_, _*_, _≤_, _<_}
@@ -31,7 +31,7 @@ use Rattle.timetable.specs.Faces.{thicknesses, faceOf, facesHeld}
 use Rattle.timetable.specs.Rows.{stepsOn, elementsOf, RowTable, oneEach}
 use Rattle.timetable.proofs.Faces.{Cut, sum-thickness, held-faces}
 use Rattle.timetable.proofs.Rows.{length-thicknesses}
-use Rattle.timetable.proofs.Walks.{Walk, walk-side, walk-small, walk-more}
+use Rattle.timetable.proofs.Walks.{Walk, walk-small, walk-more}
 
 -- ---- products of thicknesses
 
@@ -210,27 +210,23 @@ module _ (plan : Plan) (j q m o : ℕ) (table : List ℕ) (small : o < 4096) (mo
 -- ---- both tables as they are filled
 
 -- the walk down from q with the tables of the first t slabs
-pub record Sharing (plan : Plan) (j q t : ℕ) (elements counts : List ℕ) (at : Coordinated) (first : ℕ) : Type 0 where
-  pub walk : Walk plan j false q t at first
+pub record Sharing (plan : Plan) (j q t : ℕ) (elements counts : List ℕ) (at : Coordinated) : Type 0 where
+  pub walk : Walk plan j false q t at
   pub elements-table : RowTable plan j q t elements
   pub counts-table : RowTable (oneEach plan) j q t counts
 
 module _ (plan : Plan) (s : Shaped plan) (j : ℕ) (lj : j < plan .d) (q t : ℕ) (l : t < getD (plan .cuts) j 0) (elements counts : List ℕ)
-    (at : Coordinated) (first : ℕ) (w : Sharing plan j q t elements counts at first)
-    (after : ℕ) (e : after ≡ slabStart (getD (plan .extents) j 0) (getD (plan .cuts) j 0) (t + 1)) where
+    (at : Coordinated) (w : Sharing plan j q t elements counts at) (side : ℕ) (e : side ≡ thickness (getD (plan .extents) j 0) (getD (plan .cuts) j 0) t) where
   small : at .number < 4096
-  small = walk-small plan s j lj false q t at first (w .walk)
+  small = walk-small plan s j lj false q t at (w .walk)
 
-  side : after - first ≡ thickness (getD (plan .extents) j 0) (getD (plan .cuts) j 0) t
-  side = walk-side plan s j lj false q t at first (w .walk) after e
-
-  pub elements-asked : (at .number < length elements) × (getD elements (at .number) 0 + (after - first) ≤ 4294967295)
+  pub elements-asked : (at .number < length elements) × (getD elements (at .number) 0 + side ≤ 4294967295)
   elements-asked =
       rw (w .elements-table .places) (
         small,
         omega (
           arith,
-          side,
+          e,
           w .elements-table .entry (at .number) small,
           entry-fits (layoutOf plan .moduli) (layoutOf plan .matrix) j (getD (plan .extents) j 0) (getD (plan .cuts) j 0) q t (at .number) (s .cut-low j lj) (s .cut-fits j lj) l,
           s .extent-high j lj,
@@ -241,9 +237,9 @@ module _ (plan : Plan) (s : Shaped plan) (j : ℕ) (lj : j < plan .d) (q t : ℕ
   count-asked = rw (w .counts-table .places) (small, omega (arith, counted-fits plan j q t (at .number) counts small l (w .counts-table), s .cut-high j lj))
 
   pub sharing-more : (down : Stride) (to : Coordinated) → Strides plan j false down → Steps down at to
-      → Sharing plan j q (t + 1) (set elements (at .number) (getD elements (at .number) 0 + (after - first))) (set counts (at .number) (getD counts (at .number) 0 + 1)) to after
+      → Sharing plan j q (t + 1) (set elements (at .number) (getD elements (at .number) 0 + side)) (set counts (at .number) (getD counts (at .number) 0 + 1)) to
   sharing-more down to strides steps = record {
-    walk = walk-more plan s j lj false q t at first (w .walk) after e down to strides steps;
-    elements-table = table-more plan j q t (at .number) (after - first) elements (w .walk .stands .number-is) small side (w .elements-table);
+    walk = walk-more plan s j lj false q t at (w .walk) down to strides steps;
+    elements-table = table-more plan j q t (at .number) side elements (w .walk .stands .number-is) small e (w .elements-table);
     counts-table = counted-more plan j q t (at .number) counts small l (w .walk .stands .number-is) (w .counts-table);
   }

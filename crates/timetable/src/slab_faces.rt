@@ -2,7 +2,7 @@
 // has what a row of tiles has of the processor, for each owner of the row's first tile; then one look a row. The rows are walked in lines along the
 // widest dimension that is left, from neighbour to neighbour.
 use layout::Plan;
-use tiles::slabs::start;
+use tiles::slabs::thickness;
 use walks::Coordinated;
 use walks::Stride;
 ghost use mathlib.Core.Bool.{true, false};
@@ -15,7 +15,6 @@ ghost use Rattle.numbers.specs.Sums.{sum};
 ghost use Rattle.multipartition.specs.Owners.{ownerAt};
 ghost use Rattle.multipartition.specs.Questions.{ownerBy};
 ghost use Rattle.multipartition.specs.Rivals.{held};
-ghost use Rattle.multipartition.specs.Slabs.{thickness};
 ghost use Rattle.layout.specs.Plans.{layoutOf};
 ghost use Rattle.layout.specs.Shaped.{Shaped};
 ghost use Rattle.questions.specs.Bounds.{Small};
@@ -28,14 +27,6 @@ ghost use Rattle.timetable.specs.Rows.{HasPlaces, BelowCuts, RowTable, l
 pub struct Tally {
     pub faces: u32,
     pub tiles: u32,
-}
-
-// The number of elements of slab s of n elements in b slabs.
-fn thickness(n: u32, b: u32, s: u32) -> u32
-    requires { ⌜ (n ≤ 1000000) × (1 ≤ b) × (b ≤ 4096) × (b ≤ n) × (s < b) ⌝ }
-    ensures { λ r. ⌜ r ≡ thickness n b s ⌝ }
-{
-    start(n, b, s + 1) - start(n, b, s)
 }
 
 // The position with number r in the grid, the first dimension fastest.
@@ -130,13 +121,11 @@ fn fill_shares(plan: Plan, j: usize, q: u32, elements: &mut [u32], counts: &mut 
     let b = plan.cuts[j];
     let down = walks::stride_along(plan, j, false);
     let mut at = walks::with_coordinates(plan, q);
-    let mut first = start(plan.extents[j], b, 0);
     for t in 0..b {
-        let after = start(plan.extents[j], b, t + 1);
+        let side = thickness(plan.extents[j], b, t);
         let o = at.number as usize;
-        add_at(elements, o, after - first);
+        add_at(elements, o, side);
         add_at(counts, o, 1);
-        first = after;
         at = walks::next(down, at);
     }
 }
@@ -155,15 +144,13 @@ fn along<'a>(
 {
     let b = grid.cuts[c];
     let mut at = from;
-    let mut first = start(grid.extents[c], b, 0);
     let mut faces: u32 = 0;
     let mut tiles: u32 = 0;
     for t in 0..b {
-        let after = start(grid.extents[c], b, t + 1);
+        let side = thickness(grid.extents[c], b, t);
         let o = at.number as usize;
-        faces = faces + (after - first) * elements[o];
+        faces = faces + side * elements[o];
         tiles = tiles + counts[o];
-        first = after;
         at = walks::next(up, at);
     }
     Tally {

@@ -9,16 +9,16 @@ use lib.ListN.{getD}
 use Rattle.walks.proofs.Walking.{next-asked}
 use Rattle.timetable.specs.Rows.{lineOf, oneEach}
 use Rattle.timetable.proofs.Lines.{Walked, walked-none, walked-faces-fit, walked-tiles-fit, walked-more}
-use Rattle.timetable.proofs.Walks.{walk-none, walk-rises, walk-small}
+use Rattle.timetable.proofs.Walks.{walk-none, walk-small}
 use borrow.Author.Needs.{needs}
 use Rattle.timetable.proofs.slab_faces.along.Statement.{statement}
 use Rattle.timetable.proofs.slab_faces.along.Tie as tie
 
 abbrev Inv-loop : tie.InvT-loop
-Inv-loop c up elements counts grid b at₀ first₀ faces₀ tiles₀ t₀ at first faces tiles t = (t ≤ b) × Walked grid c elements counts (at₀ .number) t at first faces tiles
+Inv-loop c up elements counts grid b at₀ faces₀ tiles₀ t₀ at faces tiles t = (t ≤ b) × Walked grid c elements counts (at₀ .number) t at faces tiles
 
 abbrev μ-loop : tie.MeasureT-loop
-μ-loop c up elements counts grid b at₀ first₀ faces₀ tiles₀ t₀ at first faces tiles t = b - t
+μ-loop c up elements counts grid b at₀ faces₀ tiles₀ t₀ at faces tiles t = b - t
 
 mul-b : tie.Need-mul-b Inv-loop μ-loop
 mul-b c = search needs
@@ -26,97 +26,79 @@ mul-b c = search needs
 element-copy-out-b : tie.Need-element-copy-out-b Inv-loop μ-loop
 element-copy-out-b c = search needs
 
-mul-start : tie.Need-mul-start Inv-loop μ-loop
-mul-start c = search needs
-
-element-copy-out-start : tie.Need-element-copy-out-start Inv-loop μ-loop
-element-copy-out-start c = search needs
-
-start-requires : tie.Need-start-requires Inv-loop μ-loop
-start-requires c κs = let s = c .before .before .before .before in (s .pre .2 .shape .extent-high (s .args .c) (s .pre .2 .along), s .pre .2 .shape .cut-low (s .args .c) (s .pre .2 .along), s .pre .2 .shape .cut-high (s .args .c) (s .pre .2 .along), omega arith)
-
 loop-holds : tie.Need-loop-holds Inv-loop μ-loop
-loop-holds c = let s = c .before .before .before .before .before in (omega arith, walked-none (s .args .t1) (s .args .c) (s .args .elements .now) (s .args .counts .now) (s .args .from .number) (s .args .from) (c .start .result) (walk-none (s .args .t1) (s .pre .2 .shape) (s .args .c) (s .pre .2 .along) true (s .args .from .number) (s .args .from) (c .start .result) (s .pre .2 .processor) (s .pre .0) (c .start .ensures)))
+loop-holds c = let s = c .before .before .before in (omega arith, walked-none (s .args .t1) (s .args .c) (s .args .elements .now) (s .args .counts .now) (s .args .from .number) (s .args .from) (walk-none (s .args .t1) (s .pre .2 .shape) (s .args .c) (s .pre .2 .along) true (s .args .from .number) (s .args .from) (s .pre .2 .processor) (s .pre .0)))
 
-mul-start-2 : tie.Need-mul-start-2 Inv-loop μ-loop
-mul-start-2 c = search needs
+mul-thickness : tie.Need-mul-thickness Inv-loop μ-loop
+mul-thickness c = search needs
 
-element-copy-out-start-2 : tie.Need-element-copy-out-start-2 Inv-loop μ-loop
-element-copy-out-start-2 c = search needs
+element-copy-out-thickness : tie.Need-element-copy-out-thickness Inv-loop μ-loop
+element-copy-out-thickness c = search needs
 
-add-start : tie.Need-add-start Inv-loop μ-loop
-add-start c = let s = c .before .before .before .before .before .before .before .before in record { fits = omega (arith, s .pre .2 .shape .cut-high (s .args .c) (s .pre .2 .along)) }
-
-start-requires-2 : tie.Need-start-requires-2 Inv-loop μ-loop
-start-requires-2 c κs = let s = c .before .before .before .before .before .before .before .before in (s .pre .2 .shape .extent-high (s .args .c) (s .pre .2 .along), s .pre .2 .shape .cut-low (s .args .c) (s .pre .2 .along), s .pre .2 .shape .cut-high (s .args .c) (s .pre .2 .along), omega arith)
+thickness-requires : tie.Need-thickness-requires Inv-loop μ-loop
+thickness-requires c κs = let s = c .before .before .before .before .before .before in (s .pre .2 .shape .extent-high (s .args .c) (s .pre .2 .along), s .pre .2 .shape .cut-low (s .args .c) (s .pre .2 .along))
 
 cast-o : tie.Need-cast-o Inv-loop μ-loop
 cast-o c = search needs
 
-sub-faces : tie.Need-sub-faces Inv-loop μ-loop
-sub-faces c =
-    let s = c .before .before .before .before .before .before .before .before .before .before in
-    let l = c .before .before .before .before .loop in
-    walk-rises (s .args .t1) (s .pre .2 .shape) (s .args .c) (s .pre .2 .along) true (s .args .from .number) (l .t) (l .at) (l .first) (l .inv .1 .walk) (c .before .start2 .result) (c .before .start2 .ensures) (omega arith)
-
 mul-faces : tie.Need-mul-faces Inv-loop μ-loop
 mul-faces c =
-    let small = let s = c .before .before .before .before .before .before .before .before .before .before in
+    let small = let s = c .before .before .before .before .before .before .before .before in
     let l = c .before .before .before .before .loop in
-    walk-small (s .args .t1) (s .pre .2 .shape) (s .args .c) (s .pre .2 .along) true (s .args .from .number) (l .t) (l .at) (l .first) (l .inv .1 .walk) in
+    walk-small (s .args .t1) (s .pre .2 .shape) (s .args .c) (s .pre .2 .along) true (s .args .from .number) (l .t) (l .at) (l .inv .1 .walk) in
     record { fits = omega (arith, small) }
 
 shared-slice-read-faces : tie.Need-shared-slice-read-faces Inv-loop μ-loop
 shared-slice-read-faces c =
-    let small = let s = c .before .before .before .before .before .before .before .before .before .before .before in
+    let small = let s = c .before .before .before .before .before .before .before .before .before in
     let l = c .before .before .before .before .before .loop in
-    walk-small (s .args .t1) (s .pre .2 .shape) (s .args .c) (s .pre .2 .along) true (s .args .from .number) (l .t) (l .at) (l .first) (l .inv .1 .walk) in
-    omega (arith, small, (c .before .before .before .before .before .before .before .before .before .before .before) .pre .2 .places)
+    walk-small (s .args .t1) (s .pre .2 .shape) (s .args .c) (s .pre .2 .along) true (s .args .from .number) (l .t) (l .at) (l .inv .1 .walk) in
+    omega (arith, small, (c .before .before .before .before .before .before .before .before .before) .pre .2 .places)
 
 mul-faces-2 : tie.Need-mul-faces-2 Inv-loop μ-loop
 mul-faces-2 c =
-    let fits = let s = c .before .before .before .before .before .before .before .before .before .before .before in
+    let fits = let s = c .before .before .before .before .before .before .before .before .before in
     let l = c .before .before .before .before .before .loop in
-    walked-faces-fit (s .args .t1) (s .pre .2 .shape) (s .args .c) (s .pre .2 .along) (s .args .elements .now) (s .args .counts .now) (s .args .from .number) (l .t) (omega arith) (l .at) (l .first) (l .faces) (l .tiles) (l .inv .1) (c .before .before .start2 .result) (c .before .before .start2 .ensures) (s .pre .2 .fits) in
+    walked-faces-fit (s .args .t1) (s .pre .2 .shape) (s .args .c) (s .pre .2 .along) (s .args .elements .now) (s .args .counts .now) (s .args .from .number) (l .t) (omega arith) (l .at) (l .faces) (l .tiles) (l .inv .1) (c .before .before .thickness .result) (c .before .before .thickness .ensures) (s .pre .2 .fits) in
     record { fits = lt-of-le-of-lt (le-trans (le-add-left _ _) fits) (lit< tt) }
 
 add-faces : tie.Need-add-faces Inv-loop μ-loop
 add-faces c = record {
-  fits = lt-of-le-of-lt (let s = c .before .before .before .before .before .before .before .before .before .before .before in
+  fits = lt-of-le-of-lt (let s = c .before .before .before .before .before .before .before .before .before in
       let l = c .before .before .before .before .before .loop in
-      walked-faces-fit (s .args .t1) (s .pre .2 .shape) (s .args .c) (s .pre .2 .along) (s .args .elements .now) (s .args .counts .now) (s .args .from .number) (l .t) (omega arith) (l .at) (l .first) (l .faces) (l .tiles) (l .inv .1) (c .before .before .start2 .result) (c .before .before .start2 .ensures) (s .pre .2 .fits)) (lit< tt);
+      walked-faces-fit (s .args .t1) (s .pre .2 .shape) (s .args .c) (s .pre .2 .along) (s .args .elements .now) (s .args .counts .now) (s .args .from .number) (l .t) (omega arith) (l .at) (l .faces) (l .tiles) (l .inv .1) (c .before .before .thickness .result) (c .before .before .thickness .ensures) (s .pre .2 .fits)) (lit< tt);
 }
 
 mul-tiles : tie.Need-mul-tiles Inv-loop μ-loop
 mul-tiles c =
-    let small = let s = c .before .before .before .before .before .before .before .before .before .before .before in
+    let small = let s = c .before .before .before .before .before .before .before .before .before in
     let l = c .before .before .before .before .before .loop in
-    walk-small (s .args .t1) (s .pre .2 .shape) (s .args .c) (s .pre .2 .along) true (s .args .from .number) (l .t) (l .at) (l .first) (l .inv .1 .walk) in
+    walk-small (s .args .t1) (s .pre .2 .shape) (s .args .c) (s .pre .2 .along) true (s .args .from .number) (l .t) (l .at) (l .inv .1 .walk) in
     record { fits = omega (arith, small) }
 
 shared-slice-read-tiles : tie.Need-shared-slice-read-tiles Inv-loop μ-loop
 shared-slice-read-tiles c =
-    let small = let s = c .before .before .before .before .before .before .before .before .before .before .before .before in
+    let small = let s = c .before .before .before .before .before .before .before .before .before .before in
     let l = c .before .before .before .before .before .before .loop in
-    walk-small (s .args .t1) (s .pre .2 .shape) (s .args .c) (s .pre .2 .along) true (s .args .from .number) (l .t) (l .at) (l .first) (l .inv .1 .walk) in
-    omega (arith, small, (c .before .before .before .before .before .before .before .before .before .before .before .before) .pre .3 .places)
+    walk-small (s .args .t1) (s .pre .2 .shape) (s .args .c) (s .pre .2 .along) true (s .args .from .number) (l .t) (l .at) (l .inv .1 .walk) in
+    omega (arith, small, (c .before .before .before .before .before .before .before .before .before .before) .pre .3 .places)
 
 add-tiles : tie.Need-add-tiles Inv-loop μ-loop
 unfolding oneEach
 add-tiles c = record {
-  fits = lt-of-le-of-lt (let s = c .before .before .before .before .before .before .before .before .before .before .before .before in
+  fits = lt-of-le-of-lt (let s = c .before .before .before .before .before .before .before .before .before .before in
       let l = c .before .before .before .before .before .before .loop in
-      walked-tiles-fit (s .args .t1) (s .pre .2 .shape) (s .args .c) (s .pre .2 .along) (s .args .elements .now) (s .args .counts .now) (s .args .from .number) (l .t) (omega arith) (l .at) (l .first) (l .faces) (l .tiles) (l .inv .1) (c .before .before .before .start2 .result) (c .before .before .before .start2 .ensures) (s .pre .3 .fits)) (lit< tt);
+      walked-tiles-fit (s .args .t1) (s .pre .2 .shape) (s .args .c) (s .pre .2 .along) (s .args .elements .now) (s .args .counts .now) (s .args .from .number) (l .t) (omega arith) (l .at) (l .faces) (l .tiles) (l .inv .1) (c .before .before .before .thickness .result) (c .before .before .before .thickness .ensures) (s .pre .3 .fits)) (lit< tt);
 }
 
 next-requires : tie.Need-next-requires Inv-loop μ-loop
 next-requires c κs =
-    let s = c .before .before .before .before .before .before .before .before .before .before .before .before in
+    let s = c .before .before .before .before .before .before .before .before .before .before in
     let l = c .before .before .before .before .before .before .loop in
     next-asked (s .args .t1) (s .pre .2 .shape) (s .args .c) (s .pre .2 .along) true (s .args .up) (s .pre .1) _ (l .at) (l .inv .1 .walk .stands)
 
 add-t : tie.Need-add-t Inv-loop μ-loop
-add-t c = let s = c .before .before .before .before .before .before .before .before .before .before .before .before .before in record { fits = omega (arith, s .pre .2 .shape .cut-high (s .args .c) (s .pre .2 .along)) }
+add-t c = let s = c .before .before .before .before .before .before .before .before .before .before .before in record { fits = omega (arith, s .pre .2 .shape .cut-high (s .args .c) (s .pre .2 .along)) }
 
 loop-less : tie.Need-loop-less Inv-loop μ-loop
 loop-less c = search needs
@@ -124,14 +106,14 @@ loop-less c = search needs
 loop-again : tie.Need-loop-again Inv-loop μ-loop
 loop-again c = (
   omega arith,
-  let s = c .before .before .before .before .before .before .before .before .before .before .before .before .before in
+  let s = c .before .before .before .before .before .before .before .before .before .before .before in
       let l = c .before .before .before .before .before .before .before .loop in
-      walked-more (s .args .t1) (s .pre .2 .shape) (s .args .c) (s .pre .2 .along) (s .args .elements .now) (s .args .counts .now) (s .args .from .number) (l .t) (omega arith) (l .at) (l .first) (l .faces) (l .tiles) (l .inv .1) (c .before .before .before .before .start2 .result) (c .before .before .before .before .start2 .ensures) (s .args .up) (c .next .result) (s .pre .1) (c .next .ensures),
+      walked-more (s .args .t1) (s .pre .2 .shape) (s .args .c) (s .pre .2 .along) (s .args .elements .now) (s .args .counts .now) (s .args .from .number) (l .t) (omega arith) (l .at) (l .faces) (l .tiles) (l .inv .1) (c .before .before .before .before .thickness .result) (c .before .before .before .before .thickness .ensures) (s .args .up) (c .next .result) (s .pre .1) (c .next .ensures),
 )
 
 returns : tie.Need-returns Inv-loop μ-loop
 returns c =
-    let s = c .before .before .before .before .before .before .before in
+    let s = c .before .before .before .before .before in
     let l = c .before .loop in
     let all : l .t ≡ getD (s .args .t1 .cuts) (s .args .c) 0 = omega arith in (
       l .inv .1 .faces-are ∙ ap (λ (n : ℕ). lineOf (s .args .t1) (s .args .c) (s .args .elements .now) n (s .args .from .number)) all,
@@ -146,16 +128,11 @@ along-spec =
     μ-loop
     mul-b
     element-copy-out-b
-    mul-start
-    element-copy-out-start
-    start-requires
     loop-holds
-    mul-start-2
-    element-copy-out-start-2
-    add-start
-    start-requires-2
+    mul-thickness
+    element-copy-out-thickness
+    thickness-requires
     cast-o
-    sub-faces
     mul-faces
     shared-slice-read-faces
     mul-faces-2

@@ -1,5 +1,5 @@
 -- `volume` meets its contract.
-use mathlib.Core.Path.{_≡_, refl, sym, ap, ap₂, _∙_, subst, subst⁻¹}
+use mathlib.Core.Path.{_≡_, refl, sym, ap, ap₂, _∙_, subst⁻¹}
 use Prim.Native.Nat.{ℕ, _+_, _-_, _*_, _≤_, _<_}
 use native.Mathlib.Omega.{arith}
 use lib.ListN.{take}
@@ -45,7 +45,7 @@ thickness-requires c κs =
     let s = c .before .before .before .before in
     let i : ℕ = c .before .before .before .loop .i in
     let l : i < s .args .t1 .d = omega arith in
-    (s .pre .0 .extent-high i l, s .pre .0 .cut-low i l, s .pre .0 .cut-high i l, s .pre .0 .cut-fits i l, s .pre .1 i l)
+    (s .pre .0 .extent-high i l, s .pre .0 .cut-low i l)
 
 mul-all : tie.Need-mul-all Inv-loop μ-loop
 mul-all c =
