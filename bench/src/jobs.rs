@@ -196,7 +196,7 @@ pub fn questions(seed: u64, count: usize) -> Vec<Question> {
     let mut plans: Vec<Plan> = Vec::new();
     for p in [4, 30, 64, 360, 1000, 2520, 4096] {
         for d in 2..=5 {
-            // A prime, so that wherever there is a cut some elements are left over.
+            // A prime, so that elements are left over wherever the cut is above 1.
             let extents = vec![99_991; d];
             let weights: Vec<u32> = (0..d).map(|_| random.between(1, 9) as u32).collect();
             plans.push(plan_job(p, d as u32, &extents, &weights).expect("a roomy grid has cuts"));
