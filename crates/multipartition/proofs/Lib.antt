@@ -9,6 +9,7 @@ pub mod Cheapest
 pub mod Tiles
 pub mod Slabs
 pub mod Chains
+pub mod Stages
 pub mod Moduli
 pub mod Rows
 pub mod GridSums

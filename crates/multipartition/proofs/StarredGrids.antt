@@ -12,11 +12,11 @@ use Rattle.multipartition.specs.MixedRadix.{numberFrom, digitsOf}
 use Rattle.multipartition.specs.Owners.{times, coordinatesAt, ownerAt}
 use Rattle.multipartition.specs.Neighbours.{columnOf, turn, turned, nextOwner, neighbourAt}
 use Rattle.multipartition.specs.Tiles.{positionOf}
-use Rattle.multipartition.specs.Chains.{lowest, headsOf, nextsOf}
+use Rattle.multipartition.specs.Chains.{lowest, headsOf, nextsOf, headsAt, nextsAt}
 use Rattle.multipartition.specs.Jobs.{firstOutside, planWith, planAnswer}
 use Rattle.multipartition.specs.StarredGrids.{Grid, figureOf, computed, starred}
 
 -- every figure of every starred grid
 pub starred-grids : map computed starred ≡ map (λ (grid : Grid). grid .answer) starred
-unfolding gcd same allBelow listOf startingWith those isEven cutsWithin cutCost notLater precedes preferred chosen cheapestWithin moduliOf remainder finish finishedRows rowsOf remaindersOf matrixOf numberFrom digitsOf times coordinatesAt ownerAt columnOf turn turned nextOwner neighbourAt positionOf lowest headsOf nextsOf firstOutside planWith planAnswer figureOf
+unfolding gcd same allBelow listOf startingWith those isEven cutsWithin cutCost notLater precedes preferred chosen cheapestWithin moduliOf remainder finish finishedRows rowsOf remaindersOf matrixOf numberFrom digitsOf times coordinatesAt ownerAt columnOf turn turned nextOwner neighbourAt positionOf lowest headsOf nextsOf headsAt nextsAt firstOutside planWith planAnswer figureOf
 starred-grids = refl

@@ -4,11 +4,11 @@ use mathlib.Core.Bool.{true}
 use mathlib.Core.List.{List, [], _∷_, map}
 use mathlib.Core.Option.{Option, some}
 use Prim.Native.Nat.{ℕ, _-_}
-use lib.ListN.{length, getD}
+use lib.ListN.{length, getD, replicate}
 use Rattle.multipartition.specs.Lists.{listOf}
 use Rattle.multipartition.specs.Answers.{Answer, answered, refused}
 use Rattle.multipartition.specs.Neighbours.{neighbourAt}
-use Rattle.multipartition.specs.Chains.{headsOf, nextsOf}
+use Rattle.multipartition.specs.Chains.{headsOf, nextsOf, headsAt, nextsAt}
 use Rattle.multipartition.specs.Plans.{Layout, jobWith, tilesOf}
 use Rattle.multipartition.specs.Questions.{tileOwner}
 use Rattle.multipartition.specs.Jobs.{planAnswer}
@@ -24,6 +24,8 @@ pub data Figure : Type 0 where
   up : ℕ → List (Option ℕ) → Figure
   heads : List ℕ → Figure
   nexts : List ℕ → Figure
+  -- document 02, request e: the two chain lists when the tiles above t are visited, where the second held the list named first
+  stage : ℕ → List ℕ → List ℕ → List ℕ → Figure
   -- the job is turned down with this number and place
   turned-down : ℕ → ℕ → Figure
 
@@ -41,6 +43,8 @@ figureOf (answered plan) (row i l) = row i (getD (plan .matrix) (i - 1) [])
 figureOf (answered plan) (up k l) = up k (neighboursUp plan k (listOf 0 (plan .p) (λ q. q)))
 figureOf (answered plan) (heads l) = heads (headsOf (tileOwner plan) (tilesOf plan) (plan .p))
 figureOf (answered plan) (nexts l) = nexts (nextsOf (tileOwner plan) (tilesOf plan))
+figureOf (answered plan) (stage t lent h l) =
+    stage t lent (headsAt (tileOwner plan) (tilesOf plan) (plan .p) t) (nextsAt (tileOwner plan) (tilesOf plan) lent t)
 figureOf (answered plan) (turned-down number place) = turned-down 0 0
 
 -- a line of the table
@@ -76,6 +80,11 @@ starred =
           ∷ up 3 (some 1 ∷ some 0 ∷ some 3 ∷ some 2 ∷ [])
           ∷ heads (1 ∷ 2 ∷ 4 ∷ 3 ∷ [])
           ∷ nexts (8 ∷ 7 ∷ 6 ∷ 5 ∷ 0 ∷ 0 ∷ 0 ∷ 0 ∷ [])
+          ∷ stage 8 (replicate 8 7) (0 ∷ 0 ∷ 0 ∷ 0 ∷ []) (7 ∷ 7 ∷ 7 ∷ 7 ∷ 7 ∷ 7 ∷ 7 ∷ 7 ∷ [])
+          ∷ stage 7 (replicate 8 7) (8 ∷ 0 ∷ 0 ∷ 0 ∷ []) (7 ∷ 7 ∷ 7 ∷ 7 ∷ 7 ∷ 7 ∷ 7 ∷ 0 ∷ [])
+          ∷ stage 4 (replicate 8 7) (8 ∷ 7 ∷ 5 ∷ 6 ∷ []) (7 ∷ 7 ∷ 7 ∷ 7 ∷ 0 ∷ 0 ∷ 0 ∷ 0 ∷ [])
+          ∷ stage 2 (replicate 8 7) (8 ∷ 7 ∷ 4 ∷ 3 ∷ []) (7 ∷ 7 ∷ 6 ∷ 5 ∷ 0 ∷ 0 ∷ 0 ∷ 0 ∷ [])
+          ∷ stage 0 (replicate 8 7) (1 ∷ 2 ∷ 4 ∷ 3 ∷ []) (8 ∷ 7 ∷ 6 ∷ 5 ∷ 0 ∷ 0 ∷ 0 ∷ 0 ∷ [])
           ∷ [];
     }
     ∷ record { p = 4; extents = 1 ∷ 3 ∷ 9 ∷ []; weights = 1 ∷ 1 ∷ 1 ∷ []; answer = turned-down 5 0 ∷ [] }
