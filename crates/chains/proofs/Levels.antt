@@ -8,13 +8,12 @@ use native.Mathlib.Omega.{arith}
 use lib.ListN.{length, getD, take}
 use Rattle.multipartition.specs.MixedRadix.{numberFrom}
 use Rattle.multipartition.specs.Plans.{tilesOf}
-use Rattle.multipartition.specs.Questions.{tileOwner}
+use Rattle.multipartition.proofs.Stages.{stage-onward, stage-afresh}
 use Rattle.layout.specs.declared.Plan.{Plan}
 use Rattle.layout.specs.Plans.{layoutOf}
 use Rattle.layout.specs.Shaped.{Shaped}
-use Rattle.chains.specs.Stages.{Visited, Onward}
+use Rattle.chains.specs.Stages.{Visited, OwnedBy}
 use Rattle.chains.specs.Walks.{Holds, Below, Lowered, blockSize, blockTop, countDown, Depth}
-use Rattle.chains.proofs.Stages.{stage-onward, stage-afresh}
 use Rattle.chains.proofs.Runs.{last-within, base-fits, row-owners}
 use Rattle.chains.proofs.Blocks.{tiles-high, size-positive, size-next, below-of-holds, lowered-holds}
 
@@ -63,7 +62,7 @@ module _ (plan : Plan) (s : Shaped plan) (level : ℕ) (l : level < plan .d) (bl
     inner-ready = rw (← inner-top) (b .visited .within, b .holds low)
 
     pub inner-visited : Visited plan (blockTop plan (level + 1) (block * getD (plan .cuts) level 0 + (i - 1))) nexts heads nexts
-    inner-visited = rw (← inner-top) (stage-afresh _ _ _ (partTop plan level block i) lent heads nexts (b .visited))
+    inner-visited = rw (← inner-top) (stage-afresh (b .visited))
 
     -- its number fits
     pub inner-small : block * getD (plan .cuts) level 0 + (i - 1) < 16777216
@@ -87,8 +86,7 @@ module _ (plan : Plan) (s : Shaped plan) (level : ℕ) (l : level < plan .d) (bl
           few = omega (arith, b .few);
           below = r .below;
           visited =
-              stage-onward _ _ _ (partTop plan level block i) (partTop plan level block (i - 1)) lent heads nexts heads' nexts'
-              (mul-le-mul-right (blockSize plan (suc level)) fewer) (b .visited) (rw (add-one level) at v);
+              stage-onward (b .visited) (mul-le-mul-right (blockSize plan (suc level)) fewer) (rw (add-one level) at v);
           holds = λ more.
               let two : i ≡ suc (suc (i - 2)) = omega arith in
               let one : suc (i - 2) ≡ i - 1 = omega arith in
@@ -102,10 +100,11 @@ module _ (plan : Plan) (s : Shaped plan) (level : ℕ) (l : level < plan .d) (bl
 pub record RowReady (plan : Plan) (top count q x : ℕ) (heads nexts : List ℕ) : Type 0 where
   pub coordinate-below : x < getD (plan .moduli) (plan .d - 1) 0
   pub coordinate-within : x ≤ q
-  pub base-high : q - x + getD (plan .moduli) (plan .d - 1) 0 ≤ length heads
+  pub base-high : q - x + getD (plan .moduli) (plan .d - 1) 0 ≤ plan .p
   pub count-fits : count ≤ top
-  pub top-high : top ≤ length nexts
-  pub nexts-high : length nexts ≤ 16777216
+  pub top-small : top ≤ 16777216
+  pub owned : OwnedBy plan top count (λ j. q - x + countDown (getD (plan .moduli) (plan .d - 1) 0) x j)
+  pub visited : Visited plan top nexts heads nexts
 
 module _ (plan : Plan) (s : Shaped plan) (level : ℕ) (l : level < plan .d) (deep : Depth plan (level + 1)) (block i : ℕ) (at lent heads nexts : List ℕ)
     (b : BlockStage plan level block i at lent heads nexts) (low : 1 ≤ i) (count q : ℕ) (count-is : count ≡ blockSize plan (level + 1))
@@ -119,29 +118,21 @@ module _ (plan : Plan) (s : Shaped plan) (level : ℕ) (l : level < plan .d) (de
 
   pub row-ready : RowReady plan ((block * getD (plan .cuts) level 0 + (i - 1) + 1) * count) count q (getD at (plan .d - 1) 0) heads nexts
   row-ready =
+      let inner : ℕ = block * getD (plan .cuts) level 0 + (i - 1) in
       let ready = inner-ready plan s level l block i at lent heads nexts b low in
       record {
         coordinate-below = b .below .at (plan .d - 1) (omega (arith, s .d-low));
         coordinate-within = rw number-is (last-within plan s at (b .below));
-        base-high = rw (number-is, b .visited .heads-length) (base-fits plan s at (b .below));
-        count-fits = le-suc-times (block * getD (plan .cuts) level 0 + (i - 1)) count;
-        top-high = rw (row-top, b .visited .nexts-length) (ready .0);
-        nexts-high = rw (b .visited .nexts-length) (tiles-high plan s);
+        base-high = rw number-is (base-fits plan s at (b .below));
+        count-fits = le-suc-times inner count;
+        top-small = omega (arith, row-top, ready .0, tiles-high plan s);
+        owned = λ j m. rw (row-top, number-is) (row-owners plan s inner at (level + 1) deep (ready .0) (ready .1) j (rw (← count-is) m));
+        visited = rw row-top (inner-visited plan s level l block i at lent heads nexts b low);
       }
 
-  pub row-visited : (heads' nexts' : List ℕ)
-      → Onward ((block * getD (plan .cuts) level 0 + (i - 1) + 1) * count) count
-      (λ j. q - getD at (plan .d - 1) 0 + countDown (getD (plan .moduli) (plan .d - 1) 0) (getD at (plan .d - 1) 0) j) heads nexts heads' nexts'
-      → Visited plan ((block * getD (plan .cuts) level 0 + (i - 1)) * blockSize plan (level + 1)) nexts heads' nexts'
-  row-visited heads' nexts' more =
-      let inner : ℕ = block * getD (plan .cuts) level 0 + (i - 1) in
-      let S : ℕ = blockSize plan (level + 1) in
-      let ready = inner-ready plan s level l block i at lent heads nexts b low in
-      let end : (inner + 1) * count - count ≡ inner * S = rw count-is (omega arith) in
-      rw end at
-      (more .goes (tileOwner (layoutOf plan)) (plan .p) (tilesOf (layoutOf plan)) nexts
-      (λ j m. rw (row-top, number-is) (row-owners plan s inner at (level + 1) deep (ready .0) (ready .1) j (rw (← count-is) m)))
-      (rw row-top (inner-visited plan s level l block i at lent heads nexts b low)))
+  -- a row is a block of the next level
+  pub row-end-is : (block * getD (plan .cuts) level 0 + (i - 1) + 1) * count - count ≡ (block * getD (plan .cuts) level 0 + (i - 1)) * blockSize plan (level + 1)
+  row-end-is = rw count-is (omega arith)
 
 -- ---- the first level
 

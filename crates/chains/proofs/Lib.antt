@@ -1,4 +1,3 @@
-pub mod Stages
 pub mod Blocks
 pub mod Filling
 pub mod Runs

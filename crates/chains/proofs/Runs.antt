@@ -16,14 +16,14 @@ use Rattle.multipartition.specs.Plans.{tilesOf}
 use Rattle.multipartition.specs.Questions.{tileOwner}
 use Rattle.multipartition.proofs.MixedRadix.{number-set}
 use Rattle.multipartition.proofs.Neighbours.{turn-down, turn-below}
+use Rattle.multipartition.proofs.Stages.{stage-onward}
 use Rattle.layout.specs.declared.Plan.{Plan}
 use Rattle.layout.specs.Plans.{layoutOf}
 use Rattle.layout.specs.Shaped.{Shaped, entryOf}
 use Rattle.layout.proofs.Owners.{number-front-below}
 use Rattle.layout.proofs.Places.{moduli-length}
-use Rattle.chains.specs.Stages.{Onward}
+use Rattle.chains.specs.Stages.{Visited, OwnedBy}
 use Rattle.chains.specs.Walks.{Holds, Below, Lowered, blockSize, blockTop, Counts, oneLess, countDown, Depth}
-use Rattle.chains.proofs.Stages.{onward-none, onward-both}
 use Rattle.chains.proofs.Blocks.{size-last, size-row, below-of-holds, number-of-holds, lowered-holds}
 
 -- ---- one coordinate
@@ -72,57 +72,47 @@ count-down-around m c k =
 -- ---- going through a row by runs
 
 -- `left` of `count` tiles are still to be visited, the highest of them `tile`, whose owner has the last coordinate `at`
-pub record RowStage (base m c top count tile left at : ℕ) (heads₀ nexts₀ heads nexts : List ℕ) : Type 0 where
+pub record RowStage (plan : Plan) (m c top count tile left at : ℕ) (lent heads nexts : List ℕ) : Type 0 where
   pub few : left ≤ count
   pub below : at < m
   pub at-is : 1 ≤ left → at ≡ countDown m c (count - left)
   pub tile-is : tile + (count - left) ≡ top
-  pub onward : Onward top (count - left) (λ j. base + countDown m c j) heads₀ nexts₀ heads nexts
+  pub visited : Visited plan tile lent heads nexts
 
-module _ (base m c top count : ℕ) (heads₀ nexts₀ : List ℕ) where
-  pub row-start : c < m → RowStage base m c top count top count c heads₀ nexts₀ heads₀ nexts₀
+module _ (plan : Plan) (m c top count : ℕ) where
+  pub row-start : (heads nexts : List ℕ) → c < m → Visited plan top nexts heads nexts → RowStage plan m c top count top count c nexts heads nexts
   unfolding countDown
-  row-start l =
+  row-start heads nexts l v =
       let none : count - count ≡ 0 = omega arith in
-      record {
-        few = omega arith;
-        below = l;
-        at-is = λ low. rw none;
-        tile-is = omega arith;
-        onward = rw none (onward-none top (λ j. base + countDown m c j) heads₀ nexts₀);
-      }
+      record { few = omega arith; below = l; at-is = λ low. rw none; tile-is = omega arith; visited = v }
 
-  pub row-end : (tile left at : ℕ) (heads nexts : List ℕ) → RowStage base m c top count tile left at heads₀ nexts₀ heads nexts → left ≤ 0
-      → Onward top count (λ j. base + countDown m c j) heads₀ nexts₀ heads nexts
-  row-end tile left at heads nexts r none = let all : count - left ≡ count = omega arith in rw all at (r .onward)
+  module _ (tile left at : ℕ) (lent heads nexts : List ℕ) (r : RowStage plan m c top count tile left at lent heads nexts) where
+    pub row-end : left ≤ 0 → Visited plan (top - count) lent heads nexts
+    row-end none = let end : tile ≡ top - count = omega (arith, r .tile-is) in rw end at (r .visited)
 
-  -- a run of consecutive processors, down to the last coordinate 0 or to the end of the row
-  pub row-step : (tile left at run : ℕ) (heads nexts heads' nexts' : List ℕ)
-      → RowStage base m c top count tile left at heads₀ nexts₀ heads nexts → count ≤ top → 1 ≤ left → run ≡ min (at + 1) left
-      → Onward tile run (λ j. base + at - j) heads nexts heads' nexts'
-      → RowStage base m c top count (tile - run) (left - run) (m - 1) heads₀ nexts₀ heads' nexts'
-  row-step tile left at run heads nexts heads' nexts' r fits low run-is more =
-      record {
-        few = omega (arith, r .few);
-        below = omega (arith, r .below);
-        at-is = λ rest.
-            let whole : suc (countDown m c k) ≡ run = omega (arith, r .at-is low) in
-            rw (end, ← whole) (sym (count-down-around m c k));
-        tile-is = omega (arith, r .tile-is, r .few);
-        onward = rw end (onward-both top k run (λ j. base + countDown m c j) (λ j. base + at - j) heads₀ nexts₀ heads nexts heads' nexts' same (r .onward) (rw start more));
-      }
-    where
-      k : ℕ
-      k = count - left
+    module _ (low : 1 ≤ left) (run : ℕ) (run-is : run ≡ min (at + 1) left) where
+      -- the next run is one of consecutive processors, down to the last coordinate 0 or to the end of the row
+      pub run-owned : (base : ℕ) → OwnedBy plan top count (λ j. base + countDown m c j) → OwnedBy plan tile run (λ j. base + at - j)
+      run-owned base own j l =
+          let k : ℕ = count - left in
+          let there : tile - j ≡ top - (k + j) = omega (arith, r .tile-is) in
+          rw there
+          (own (k + j) (omega (arith, run-is, r .few))
+          ∙ rw (count-down-run m c k j (omega (arith, r .at-is low, run-is))) (omega (arith, r .at-is low, run-is)))
 
-      end : count - (left - run) ≡ k + run
-      end = omega (arith, r .few, run-is)
-
-      start : top - k ≡ tile
-      start = omega (arith, r .tile-is)
-
-      same : (j : ℕ) → j < run → base + at - j ≡ base + countDown m c (k + j)
-      same j l = rw (count-down-run m c k j (omega (arith, r .at-is low, run-is))) (omega (arith, r .at-is low, run-is))
+      pub row-step : (heads' nexts' : List ℕ) → Visited plan (tile - run) nexts heads' nexts' → count ≤ top
+          → RowStage plan m c top count (tile - run) (left - run) (m - 1) lent heads' nexts'
+      row-step heads' nexts' v fits =
+          record {
+            few = omega (arith, r .few);
+            below = omega (arith, r .below);
+            at-is = λ rest.
+                let end : count - (left - run) ≡ count - left + run = omega (arith, r .few, run-is) in
+                let whole : suc (countDown m c (count - left)) ≡ run = omega (arith, r .at-is low) in
+                rw (end, ← whole) (sym (count-down-around m c (count - left)));
+            tile-is = omega (arith, r .tile-is, r .few, run-is);
+            visited = stage-onward (r .visited) (omega arith) v;
+          }
 
 -- ---- a row of a plan
 

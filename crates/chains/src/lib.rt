@@ -1,5 +1,5 @@
-// The chains of a plan's tiles, in two lent lists. The tiles are walked from the highest down: a tile's next is what its owner's lowest was so
-// far, and the tile becomes the lowest. No tile takes a division: the owner's coordinates go along from tile to tile, and in a plan whose last
+// The chains of a plan's tiles, in two lent lists. The tiles are visited from the highest down, and each visit leads from one stage of the walk to
+// the next (document 02, request e). No tile takes a division: the owner's coordinates go along from tile to tile, and in a plan whose last
 // dimension counts the last coordinate, as in the planner's, whole runs of tiles belong to consecutive processors.
 use layout::Plan;
 ghost use mathlib.Core.Bool.{true, false};
@@ -18,7 +18,7 @@ ghost use Rattle.multipartition.specs.Questions.{tileOwner, chainsAnswer};
 ghost use Rattle.layout.specs.Plans.{layoutOf};
 ghost use Rattle.layout.specs.Shaped.{Factors, Shaped};
 ghost use Rattle.chains.specs.Told.{Answers};
-ghost use Rattle.chains.specs.Stages.{Visited, Onward};
+ghost use Rattle.chains.specs.Stages.{Visited, OwnedBy};
 ghost use Rattle.chains.specs.Walks.{Entries, Holds, Below, Lowered, blockSize, blockTop, Counts, countDown, Depth};
 
 pub enum Chained {
@@ -79,22 +79,29 @@ fn lowered<'a>(
     next
 }
 
+// Visits the tile with `below` tiles below it, the highest that is not yet visited: its next is its owner's lowest tile so far, and it becomes the
+// lowest. All other places stay.
+fn visit(plan: Plan, owner: usize, below: usize, heads: &mut [u32], nexts: &mut [u32])
+    requires { ⌜ (Shaped plan) × (owner ≡ tileOwner (layoutOf plan) (below + 1)) × (owner < plan .p) ⌝ }
+    requires { ⌜ Visited plan (below + 1) (now nexts) (now heads) (now nexts) ⌝ }
+    ensures { λ r. ⌜ Visited plan below (now (nexts .entry)) (now (heads .exit)) (now (nexts .exit)) ⌝ }
+{
+    nexts[below] = heads[owner];
+    heads[owner] = (below as u32) + 1;
+}
+
 // Visits `count` tiles, the highest of them `top`, that belong to the processors q, q - 1, ..
-fn link(q: usize, top: u32, count: usize, heads: &mut [u32], nexts: &mut [u32])
-    requires { ⌜ (q < length (now heads)) × (count ≤ q + 1) × (count ≤ top) × (top ≤ length (now nexts)) × (length (now nexts) ≤ 16777216) ⌝ }
-    ensures { λ r. ⌜ Onward top count (λ j. q - j) (now (heads .entry)) (now (nexts .entry)) (now (heads .exit)) (now (nexts .exit)) ⌝ }
+fn link(plan: Plan, q: usize, top: usize, count: usize, heads: &mut [u32], nexts: &mut [u32])
+    requires { ⌜ (Shaped plan) × (q < plan .p) × (count ≤ q + 1) × (count ≤ top) × (OwnedBy plan top count (λ j. q - j)) ⌝ }
+    requires { ⌜ Visited plan top (now nexts) (now heads) (now nexts) ⌝ }
+    ensures { λ r. ⌜ Visited plan (top - count) (now (nexts .entry)) (now (heads .exit)) (now (nexts .exit)) ⌝ }
 {
     let from = q + 1 - count;
-    let below = (top as usize) - count;
-    let mut tile = top;
+    let below = top - count;
     let mut i = count;
     while 0 < i {
         i = i - 1;
-        let at = below + i;
-        let owner = from + i;
-        nexts[at] = heads[owner];
-        heads[owner] = tile;
-        tile = tile - 1;
+        visit(plan, from + i, below + i, heads, nexts);
     }
 }
 
@@ -111,24 +118,26 @@ fn smaller(a: usize, b: usize) -> usize
 // Visits `count` tiles, the highest of them `top`, whose owner's last coordinate is counted down from c, modulo m; the processors with the other
 // coordinates as they are begin at `base`.
 fn row(
+    plan: Plan,
     base: usize,
     m: usize,
     c: usize,
-    top: u32,
+    top: usize,
     count: usize,
     heads: &mut [u32],
     nexts: &mut [u32],
 )
-    requires { ⌜ (c < m) × (base + m ≤ length (now heads)) × (count ≤ top) × (top ≤ length (now nexts)) × (length (now nexts) ≤ 16777216) ⌝ }
-    ensures { λ r. ⌜ Onward top count (λ j. base + countDown m c j) (now (heads .entry)) (now (nexts .entry)) (now (heads .exit)) (now (nexts .exit)) ⌝ }
+    requires { ⌜ (Shaped plan) × (c < m) × (base + m ≤ plan .p) × (count ≤ top) × (OwnedBy plan top count (λ j. base + countDown m c j)) ⌝ }
+    requires { ⌜ Visited plan top (now nexts) (now heads) (now nexts) ⌝ }
+    ensures { λ r. ⌜ Visited plan (top - count) (now (nexts .entry)) (now (heads .exit)) (now (nexts .exit)) ⌝ }
 {
     let mut tile = top;
     let mut left = count;
     let mut at = c;
     while 0 < left {
         let run = smaller(at + 1, left);
-        link(base + at, tile, run, heads, nexts);
-        tile = tile - (run as u32);
+        link(plan, base + at, tile, run, heads, nexts);
+        tile = tile - run;
         left = left - run;
         at = m - 1;
     }
@@ -160,7 +169,16 @@ fn rows(
         let coordinate = at[last] as usize;
         let base = number_of(d, &plan.moduli, at) - coordinate;
         let top = (block * b + i + 1) * length;
-        row(base, m, coordinate, top, length as usize, heads, nexts);
+        row(
+            plan,
+            base,
+            m,
+            coordinate,
+            top as usize,
+            length as usize,
+            heads,
+            nexts,
+        );
         let next = lowered(d, level, &plan.moduli, &plan.matrix, at);
         at = next;
     }
@@ -272,12 +290,12 @@ fn row_length(plan: Plan, depth: usize) -> u32
     1
 }
 
-// Both lists of the stated lengths are filled.
-fn fill(plan: Plan, heads: &mut [u32], nexts: &mut [u32])
-    requires { ⌜ (Shaped plan) × (length (now heads) ≡ plan .p) × (length (now nexts) ≡ tilesOf (layoutOf plan)) ⌝ }
-    ensures { λ r. ⌜ (now (heads .exit) ≡ headsOf (tileOwner (layoutOf plan)) (tilesOf (layoutOf plan)) (plan .p)) × (now (nexts .exit) ≡ nextsOf (tileOwner (layoutOf plan)) (tilesOf (layoutOf plan))) ⌝ }
+// Visits all tiles, from the highest down.
+fn visit_all(plan: Plan, heads: &mut [u32], nexts: &mut [u32])
+    requires { ⌜ Shaped plan ⌝ }
+    requires { ⌜ Visited plan (tilesOf (layoutOf plan)) (now nexts) (now heads) (now nexts) ⌝ }
+    ensures { λ r. ⌜ Visited plan 0 (now (nexts .entry)) (now (heads .exit)) (now (nexts .exit)) ⌝ }
 {
-    clear(heads);
     let depth = depth_of(plan);
     let length = row_length(plan, depth);
     walk(
@@ -290,6 +308,15 @@ fn fill(plan: Plan, heads: &mut [u32], nexts: &mut [u32])
         heads,
         nexts,
     );
+}
+
+// Both lists of the stated lengths are filled: the first is cleared, the second is as lent when the walk begins.
+fn fill(plan: Plan, heads: &mut [u32], nexts: &mut [u32])
+    requires { ⌜ (Shaped plan) × (length (now heads) ≡ plan .p) × (length (now nexts) ≡ tilesOf (layoutOf plan)) ⌝ }
+    ensures { λ r. ⌜ (now (heads .exit) ≡ headsOf (tileOwner (layoutOf plan)) (tilesOf (layoutOf plan)) (plan .p)) × (now (nexts .exit) ≡ nextsOf (tileOwner (layoutOf plan)) (tilesOf (layoutOf plan))) ⌝ }
+{
+    clear(heads);
+    visit_all(plan, heads, nexts);
 }
 
 // The first list gets each processor's lowest tile, the second, for each tile, its owner's next higher one.

@@ -3,6 +3,7 @@ use mathlib.Core.Path.{sym, _∙_}
 use Prim.Native.Nat.{ℕ, _+_, _-_, _<_, _≤_}
 use native.Mathlib.Omega.{arith}
 use borrow.Author.Needs.{needs}
+use Rattle.multipartition.proofs.Stages.{heads-length, nexts-length}
 use Rattle.chains.proofs.Blocks.{moduli-factors, entries}
 use Rattle.chains.proofs.Levels.{BlockStage, block-start, block-end, inner-ready, inner-visited, inner-small, block-step}
 use Rattle.chains.proofs.+walk.{statement}
@@ -123,10 +124,10 @@ module _ (t : ℕ) where
       block-step (s .args .t1) (s .pre .1 .0 .0) (s .args .level) level (s .args .block) (l .i) (l .at) (s .args .nexts .now) (l .heads) (l .nexts) (l .inv) (c .before .before .before .before .before .before .before .before .before .before .before .loop-test .taken) (c .lowered .result) _ _ (c .before .before .before .before .before .before .before .before .walk .ensures) (c .lowered .ensures)
 
   same-length-3 : walk-lts.Need-same-length-3 (calls t) (walk-at t) walk.Post Inv-loop μ-loop
-  same-length-3 c = let s = c .before .before .before .before .before .before in c .before .loop .inv .visited .heads-length ∙ sym (s .pre .1 .1 .1 .heads-length)
+  same-length-3 c = let s = c .before .before .before .before .before .before in heads-length (c .before .loop .inv .visited) ∙ sym (heads-length (s .pre .1 .1 .1))
 
   same-length-4 : walk-lts.Need-same-length-4 (calls t) (walk-at t) walk.Post Inv-loop μ-loop
-  same-length-4 c = let s = c .before .before .before .before .before .before in c .before .loop .inv .visited .nexts-length ∙ sym (s .pre .1 .1 .1 .nexts-length)
+  same-length-4 c = let s = c .before .before .before .before .before .before in nexts-length (c .before .loop .inv .visited) ∙ sym (nexts-length (s .pre .1 .1 .1))
 
   returns-2 : walk-lts.Need-returns-2 (calls t) (walk-at t) walk.Post Inv-loop μ-loop
   returns-2 c =

@@ -3,8 +3,9 @@ use mathlib.Core.Path.{sym, _∙_}
 use Prim.Native.Nat.{_-_, _<_, _≤_}
 use native.Mathlib.Omega.{arith}
 use borrow.Author.Needs.{needs}
+use Rattle.multipartition.proofs.Stages.{heads-length, nexts-length}
 use Rattle.chains.proofs.Blocks.{moduli-factors, moduli-small, entries}
-use Rattle.chains.proofs.Levels.{BlockStage, block-start, block-end, inner-small, block-step, row-ready, row-visited}
+use Rattle.chains.proofs.Levels.{BlockStage, block-start, block-end, inner-small, block-step, row-ready, row-end-is}
 use Rattle.chains.proofs.rows.Statement.{statement}
 use Rattle.chains.proofs.rows.Tie as tie
 
@@ -88,14 +89,21 @@ mul-top-2 c =
     let s = c .before .before .before .before .before .before .before .before .before in
     let l = c .before .before .before .before .loop in
     let ready = row-ready (s .args .t1) (s .pre .0 .0) (s .args .level) (s .pre .0 .2) (s .pre .0 .1) (s .args .block) (l .i) (l .at) (s .args .nexts .now) (l .heads) (l .nexts) (l .inv) (omega arith) (s .args .length) (c .number-of .result) (s .pre .0 .3) (c .number-of .ensures) in
-    omega (arith, ready .top-high, ready .nexts-high)
+    omega (arith, ready .top-small)
+
+cast-row : tie.Need-cast-row Inv-loop μ-loop
+cast-row c =
+    let s = c .before .before .before .before .before .before .before .before .before in
+    let l = c .before .before .before .before .loop in
+    let ready = row-ready (s .args .t1) (s .pre .0 .0) (s .args .level) (s .pre .0 .2) (s .pre .0 .1) (s .args .block) (l .i) (l .at) (s .args .nexts .now) (l .heads) (l .nexts) (l .inv) (omega arith) (s .args .length) (c .number-of .result) (s .pre .0 .3) (c .number-of .ensures) in
+    omega (arith, ready .top-small)
 
 row-requires : tie.Need-row-requires Inv-loop μ-loop
 row-requires c κs =
     let s = c .before .before .before .before .before .before .before .before .before .before .before in
     let l = c .before .before .before .before .before .before .loop in
     let ready = row-ready (s .args .t1) (s .pre .0 .0) (s .args .level) (s .pre .0 .2) (s .pre .0 .1) (s .args .block) (l .i) (l .at) (s .args .nexts .now) (l .heads) (l .nexts) (l .inv) (omega arith) (s .args .length) (c .before .before .number-of .result) (s .pre .0 .3) (c .before .before .number-of .ensures) in
-    (ready .coordinate-below, ready .base-high, ready .count-fits, ready .top-high, ready .nexts-high)
+    ((s .pre .0 .0, ready .coordinate-below, ready .base-high, ready .count-fits, ready .owned), ready .visited)
 
 lowered-requires : tie.Need-lowered-requires Inv-loop μ-loop
 lowered-requires c κs =
@@ -112,16 +120,15 @@ loop-again c =
     let l = c .before .before .before .before .before .before .before .before .before .before .before .before .before .before .before .loop in
     let low : 1 ≤ l .i = c .before .before .before .before .before .before .before .before .before .before .before .before .before .before .loop-test .taken in
     let q = c .before .before .before .before .before .before .before .before .before .before .before .number-of in
+    let end = row-end-is (s .args .t1) (s .pre .0 .0) (s .args .level) (s .pre .0 .2) (s .pre .0 .1) (s .args .block) (l .i) (l .at) (s .args .nexts .now) (l .heads) (l .nexts) (l .inv) low (s .args .length) (q .result) (s .pre .0 .3) (q .ensures) in
     block-step (s .args .t1) (s .pre .0 .0) (s .args .level) (s .pre .0 .2) (s .args .block) (l .i) (l .at) (s .args .nexts .now) (l .heads) (l .nexts) (l .inv) low (c .lowered .result) _ _
-    (row-visited (s .args .t1) (s .pre .0 .0) (s .args .level) (s .pre .0 .2) (s .pre .0 .1) (s .args .block) (l .i) (l .at) (s .args .nexts .now) (l .heads) (l .nexts) (l .inv) low (s .args .length)
-    (q .result) (s .pre .0 .3) (q .ensures) _ _ (c .before .before .before .before .before .before .before .before .row .ensures))
-    (c .lowered .ensures)
+    (rw end at (c .before .before .before .before .before .before .before .before .row .ensures)) (c .lowered .ensures)
 
 same-length : tie.Need-same-length Inv-loop μ-loop
-same-length c = let s = c .before .before .before .before .before .before in c .before .loop .inv .visited .heads-length ∙ sym (s .pre .1 .1 .heads-length)
+same-length c = let s = c .before .before .before .before .before .before in heads-length (c .before .loop .inv .visited) ∙ sym (heads-length (s .pre .1 .1))
 
 same-length-2 : tie.Need-same-length-2 Inv-loop μ-loop
-same-length-2 c = let s = c .before .before .before .before .before .before in c .before .loop .inv .visited .nexts-length ∙ sym (s .pre .1 .1 .nexts-length)
+same-length-2 c = let s = c .before .before .before .before .before .before in nexts-length (c .before .loop .inv .visited) ∙ sym (nexts-length (s .pre .1 .1))
 
 returns : tie.Need-returns Inv-loop μ-loop
 returns c =
@@ -152,6 +159,7 @@ rows-spec =
     add-top
     add-top-2
     mul-top-2
+    cast-row
     row-requires
     lowered-requires
     loop-less
