@@ -3,6 +3,7 @@ use mathlib.Core.Path.{_≡_, refl, sym, ap, ap₂, _∙_}
 use mathlib.Core.Bool.{Bool, true, false, cond}
 use mathlib.Core.List.{List, [], _∷_, _++_, append-nil}
 use Prim.Native.Nat.{ℕ, suc, _+_, _-_, _≤_, _<_}
+use native.Mathlib.Numerals.{add-one}
 use native.Mathlib.Omega.{arith}
 use lib.Dec.{eqb}
 use lib.ListN.{length, getD, set, take, replicate, length-set, length-append, length-replicate, getD-replicate}
@@ -12,12 +13,12 @@ use Rattle.multipartition.specs.Lists.{listOf}
 use Rattle.multipartition.specs.Chains.{lowest, nextHigher, headsOf, nextsOf, headsAt, nextsAt, Stage}
 use Rattle.multipartition.proofs.Chains.{length-listOf, getD-listOf}
 
-module _ (own : ℕ → ℕ) (n p : ℕ) where
-  -- ---- the first list
+-- ---- the first list
 
+module _ (own : ℕ → ℕ) (n p : ℕ) where
   pub length-heads-at : (t : ℕ) → length (headsAt own n p t) ≡ p
   unfolding headsAt
-  length-heads-at t = length-listOf 0 p (λ q. lowest own q (suc t) (n - t))
+  length-heads-at t = length-listOf 0 p _
 
   pub head-at : (t q : ℕ) → q < p → getD (headsAt own n p t) q 0 ≡ lowest own q (suc t) (n - t)
   unfolding headsAt
@@ -55,8 +56,9 @@ module _ (own : ℕ → ℕ) (n p : ℕ) where
       head-step t q _ heads (omega (arith, length-heads-at (suc t))) (head-at (suc t) q within) (eqb (own (suc t)) q) refl
       ∙ sym (head-at t q within ∙ lowest-front q t high))
 
-  -- ---- the second list
+-- ---- the second list
 
+module _ (own : ℕ → ℕ) (n : ℕ) where
   pub length-nexts-at : (lent : List ℕ) (t : ℕ) → length lent ≡ n → t ≤ n → length (nextsAt own n lent t) ≡ n
   unfolding nextsAt
   length-nexts-at lent t long within =
@@ -89,25 +91,31 @@ module _ (own : ℕ → ℕ) (n p : ℕ) where
       = ap (λ (xs : List ℕ). xs ++ visited) (take-suc lent t 0 (omega (arith, long))) ∙ append-snoc (take t lent) (getD lent t 0) visited in
       rw (more, parts) (set-at (take t lent) (getD lent t 0) visited (nextHigher own n (suc t)) t (length-take-le t lent (omega (arith, long))))
 
-  -- ---- the walk
+-- ---- the walk
 
+module _ (own : ℕ → ℕ) (n p : ℕ) where
   -- no tile is visited
   pub stage-start : (lent : List ℕ) → length lent ≡ n → Stage own n p n lent (replicate p 0) lent
   stage-start lent long =
-      record { within = omega arith; lent-length = long; heads-are = heads-start; nexts-are = nexts-start lent long }
+      record { within = omega arith; lent-length = long; heads-are = heads-start own n p; nexts-are = nexts-start own n lent long }
 
-  -- tile t + 1 is visited: its next is its owner's lowest so far, and it becomes the lowest
-  pub stage-step : (t : ℕ) (lent heads nexts : List ℕ) → own (suc t) < p → Stage own n p (suc t) lent heads nexts
-      → Stage own n p t lent (set heads (own (suc t)) (suc t)) (set nexts t (getD heads (own (suc t)) 0))
-  stage-step t lent heads nexts mine s =
-      let next : getD heads (own (suc t)) 0 ≡ nextHigher own n (suc t)
-      = ap (λ (xs : List ℕ). getD xs (own (suc t)) 0) (s .heads-are) ∙ head-at (suc t) (own (suc t)) mine in
-      record {
-        within = omega (arith, s .within);
-        lent-length = s .lent-length;
-        heads-are = rw (s .heads-are) (heads-step t (s .within) mine);
-        nexts-are = rw (next, s .nexts-are) (nexts-step lent t (s .lent-length) (s .within));
-      }
+  -- tile t + 1, which q owns, is visited: its next is q's lowest so far, and it becomes q's lowest
+  pub stage-step : (t q : ℕ) (lent heads nexts : List ℕ) → q ≡ own (t + 1) → q < p → Stage own n p (t + 1) lent heads nexts
+      → Stage own n p t lent (set heads q (t + 1)) (set nexts t (getD heads q 0))
+  stage-step t q lent heads nexts owner mine s =
+      rw (owner, add-one t) (step (rw (owner, add-one t) at mine) (rw (add-one t) at s))
+    where
+      step : own (suc t) < p → Stage own n p (suc t) lent heads nexts
+          → Stage own n p t lent (set heads (own (suc t)) (suc t)) (set nexts t (getD heads (own (suc t)) 0))
+      step mine s =
+          let next : getD heads (own (suc t)) 0 ≡ nextHigher own n (suc t)
+          = ap (λ (xs : List ℕ). getD xs (own (suc t)) 0) (s .heads-are) ∙ head-at own n p (suc t) (own (suc t)) mine in
+          record {
+            within = omega (arith, s .within);
+            lent-length = s .lent-length;
+            heads-are = rw (s .heads-are) (heads-step own n p t (s .within) mine);
+            nexts-are = rw (next, s .nexts-are) (nexts-step own n lent t (s .lent-length) (s .within));
+          }
 
   -- all tiles are visited: the lists are those of document 01
   pub stage-end : (lent heads nexts : List ℕ) → Stage own n p 0 lent heads nexts → (heads ≡ headsOf own n p) × (nexts ≡ nextsOf own n)
@@ -121,10 +129,10 @@ module _ {own : ℕ → ℕ} {n p t : ℕ} {lent heads nexts : List ℕ} (s : St
   heads-length = ap length (s .heads-are) ∙ length-heads-at own n p t
 
   pub nexts-length : length nexts ≡ n
-  nexts-length = ap length (s .nexts-are) ∙ length-nexts-at own n p lent t (s .lent-length) (s .within)
+  nexts-length = ap length (s .nexts-are) ∙ length-nexts-at own n lent t (s .lent-length) (s .within)
 
   as-lent : (u : ℕ) → u ≤ t → take u nexts ≡ take u lent
-  as-lent u l = ap (take u) (s .nexts-are) ∙ unvisited own n p lent t u (s .lent-length) l (s .within)
+  as-lent u l = ap (take u) (s .nexts-are) ∙ unvisited own n lent t u (s .lent-length) l (s .within)
 
   -- the stage with what the second list holds now as lent
   pub stage-afresh : Stage own n p t nexts heads nexts
@@ -133,7 +141,7 @@ module _ {own : ℕ → ℕ} {n p t : ℕ} {lent heads nexts : List ℕ} (s : St
         within = s .within;
         lent-length = nexts-length;
         heads-are = s .heads-are;
-        nexts-are = s .nexts-are ∙ nexts-by own n p lent nexts t (sym (as-lent t (omega arith)));
+        nexts-are = s .nexts-are ∙ nexts-by own n lent nexts t (sym (as-lent t (omega arith)));
       }
 
   -- what is lent at a later stage is what was lent at this one
@@ -143,5 +151,5 @@ module _ {own : ℕ → ℕ} {n p t : ℕ} {lent heads nexts : List ℕ} (s : St
         within = later .within;
         lent-length = s .lent-length;
         heads-are = later .heads-are;
-        nexts-are = later .nexts-are ∙ nexts-by own n p nexts lent _ (as-lent _ l);
+        nexts-are = later .nexts-are ∙ nexts-by own n nexts lent _ (as-lent _ l);
       }

@@ -28,10 +28,10 @@ add-from : tie.Need-add-from Inv-loop μ-loop
 add-from c = let s = c .before .before in omega (arith, s .pre .0 .1, s .pre .0 .0 .p-high)
 
 sub-from : tie.Need-sub-from Inv-loop μ-loop
-sub-from c = c .before .before .pre .0 .2
+sub-from c = let s = c .before .before in omega (arith, s .pre .0 .2)
 
 sub-below : tie.Need-sub-below Inv-loop μ-loop
-sub-below c = c .before .before .pre .0 .3
+sub-below c = let s = c .before .before in omega (arith, s .pre .0 .3)
 
 loop-holds : tie.Need-loop-holds Inv-loop μ-loop
 loop-holds c =

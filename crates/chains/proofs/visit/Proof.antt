@@ -1,12 +1,7 @@
 -- `visit` meets its contract.
-use mathlib.Core.Path.{_≡_, sym, _∙_}
-use Prim.Native.Nat.{suc, _+_}
-use native.Mathlib.Numerals.{add-one}
 use native.Mathlib.Omega.{arith}
 use lib.ListN.{length-set}
-use Rattle.multipartition.specs.Questions.{tileOwner}
 use Rattle.multipartition.proofs.Stages.{heads-length, nexts-length, stage-step}
-use Rattle.layout.specs.Plans.{layoutOf}
 use Rattle.chains.proofs.Blocks.{tiles-high}
 use Rattle.chains.proofs.visit.Statement.{statement}
 use Rattle.chains.proofs.visit.Tie as tie
@@ -36,7 +31,7 @@ slice-write-heads : tie.Need-slice-write-heads
 slice-write-heads c = let s = c .before in omega (arith, s .pre .0 .2, heads-length (s .pre .1))
 
 same-length : tie.Need-same-length
-same-length c = let s = c .before in length-set (s .args .heads .now) (s .args .owner) (s .args .below + 1)
+same-length c = let s = c .before in length-set (s .args .heads .now) (s .args .owner) _
 
 same-length-2 : tie.Need-same-length-2
 same-length-2 c = let s = c .before in length-set (s .args .nexts .now) (s .args .below) _
@@ -44,10 +39,7 @@ same-length-2 c = let s = c .before in length-set (s .args .nexts .now) (s .args
 returns : tie.Need-returns
 returns c =
     let s = c .before in
-    let own : tileOwner (layoutOf (s .args .plan)) (suc (s .args .below)) ≡ s .args .owner = sym (s .pre .0 .1 ∙ rw (add-one (s .args .below))) in
-    rw (add-one (s .args .below), ← own)
-    (stage-step _ _ _ (s .args .below) (s .args .nexts .now) (s .args .heads .now) (s .args .nexts .now) (omega (arith, own, s .pre .0 .2))
-    (rw (add-one (s .args .below)) at (s .pre .1)))
+    stage-step _ _ _ (s .args .below) (s .args .owner) (s .args .nexts .now) (s .args .heads .now) (s .args .nexts .now) (s .pre .0 .1) (s .pre .0 .2) (s .pre .1)
 
 pub visit-spec : {M : Type 1} → statement M
 visit-spec =
