@@ -79,29 +79,31 @@ fn lowered<'a>(
     next
 }
 
-// Visits the tile with `below` tiles below it, the highest that is not yet visited: its next is its owner's lowest tile so far, and it becomes the
-// lowest. All other places stay.
-fn visit(plan: Plan, owner: usize, below: usize, heads: &mut [u32], nexts: &mut [u32])
-    requires { ⌜ (Shaped plan) × (owner ≡ tileOwner (layoutOf plan) (below + 1)) × (owner < plan .p) ⌝ }
-    requires { ⌜ Visited plan (below + 1) (now nexts) (now heads) (now nexts) ⌝ }
-    ensures { λ r. ⌜ Visited plan below (now (nexts .entry)) (now (heads .exit)) (now (nexts .exit)) ⌝ }
+// Visits a tile, the highest that is not yet visited: its next is its owner's lowest tile so far, and it becomes the lowest. Its place in the second
+// list is `at`; all other places of that list stay.
+fn visit(plan: Plan, tile: u32, at: usize, owner: usize, heads: &mut [u32], nexts: &mut [u32])
+    requires { ⌜ (Shaped plan) × (tile ≡ at + 1) × (owner ≡ tileOwner (layoutOf plan) tile) × (owner < plan .p) ⌝ }
+    requires { ⌜ Visited plan tile (now nexts) (now heads) (now nexts) ⌝ }
+    ensures { λ r. ⌜ Visited plan at (now (nexts .entry)) (now (heads .exit)) (now (nexts .exit)) ⌝ }
 {
-    nexts[below] = heads[owner];
-    heads[owner] = (below as u32) + 1;
+    nexts[at] = heads[owner];
+    heads[owner] = tile;
 }
 
 // Visits `count` tiles, the highest of them `top`, that belong to the processors q, q - 1, ..
-fn link(plan: Plan, q: usize, top: usize, count: usize, heads: &mut [u32], nexts: &mut [u32])
+fn link(plan: Plan, q: usize, top: u32, count: usize, heads: &mut [u32], nexts: &mut [u32])
     requires { ⌜ (Shaped plan) × (q < plan .p) × (count ≤ q + 1) × (count ≤ top) × (OwnedBy plan top count (λ j. q - j)) ⌝ }
     requires { ⌜ Visited plan top (now nexts) (now heads) (now nexts) ⌝ }
     ensures { λ r. ⌜ Visited plan (top - count) (now (nexts .entry)) (now (heads .exit)) (now (nexts .exit)) ⌝ }
 {
     let from = q + 1 - count;
-    let below = top - count;
+    let below = (top as usize) - count;
+    let mut tile = top;
     let mut i = count;
     while 0 < i {
         i = i - 1;
-        visit(plan, from + i, below + i, heads, nexts);
+        visit(plan, tile, below + i, from + i, heads, nexts);
+        tile = tile - 1;
     }
 }
 
@@ -122,7 +124,7 @@ fn row(
     base: usize,
     m: usize,
     c: usize,
-    top: usize,
+    top: u32,
     count: usize,
     heads: &mut [u32],
     nexts: &mut [u32],
@@ -137,7 +139,7 @@ fn row(
     while 0 < left {
         let run = smaller(at + 1, left);
         link(plan, base + at, tile, run, heads, nexts);
-        tile = tile - run;
+        tile = tile - (run as u32);
         left = left - run;
         at = m - 1;
     }
@@ -174,7 +176,7 @@ fn rows(
             base,
             m,
             coordinate,
-            top as usize,
+            top,
             length as usize,
             heads,
             nexts,

@@ -99,11 +99,12 @@ module _ (own : ℕ → ℕ) (n p : ℕ) where
   stage-start lent long =
       record { within = omega arith; lent-length = long; heads-are = heads-start own n p; nexts-are = nexts-start own n lent long }
 
-  -- tile t + 1, which q owns, is visited: its next is q's lowest so far, and it becomes q's lowest
-  pub stage-step : (t q : ℕ) (lent heads nexts : List ℕ) → q ≡ own (t + 1) → q < p → Stage own n p (t + 1) lent heads nexts
-      → Stage own n p t lent (set heads q (t + 1)) (set nexts t (getD heads q 0))
-  stage-step t q lent heads nexts owner mine s =
-      rw (owner, add-one t) (step (rw (owner, add-one t) at mine) (rw (add-one t) at s))
+  -- a tile, which q owns, is visited, and t tiles are left: its next is q's lowest so far, and it becomes q's lowest
+  pub stage-step : (tile t q : ℕ) (lent heads nexts : List ℕ) → tile ≡ t + 1 → q ≡ own tile → q < p → Stage own n p tile lent heads nexts
+      → Stage own n p t lent (set heads q tile) (set nexts t (getD heads q 0))
+  stage-step tile t q lent heads nexts tile-is owner mine s =
+      let next : tile ≡ suc t = tile-is ∙ add-one t in
+      rw (owner, next) (step (rw (owner, next) at mine) (rw next at s))
     where
       step : own (suc t) < p → Stage own n p (suc t) lent heads nexts
           → Stage own n p t lent (set heads (own (suc t)) (suc t)) (set nexts t (getD heads (own (suc t)) 0))

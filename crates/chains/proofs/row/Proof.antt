@@ -2,6 +2,7 @@
 use mathlib.Core.Path.{sym, _∙_}
 use native.Mathlib.Omega.{arith}
 use Rattle.multipartition.proofs.Stages.{heads-length, nexts-length, stage-afresh}
+use Rattle.chains.proofs.Blocks.{tiles-high}
 use Rattle.chains.proofs.Runs.{RowStage, row-start, row-end, run-owned, row-step}
 use Rattle.chains.proofs.row.Statement.{statement}
 use Rattle.chains.proofs.row.Tie as tie
@@ -41,6 +42,12 @@ link-requires c κs =
       ),
       stage-afresh (l .inv .visited),
     )
+
+cast-tile : tie.Need-cast-tile Inv-loop μ-loop
+cast-tile c =
+    let s = c .before .before .before .before .before .before .before .before .before .before .before .before in
+    let l = c .before .before .before .before .before .before .before .before .before .loop in
+    omega (arith, c .before .before .before .before .before .before .before .smaller .ensures, l .inv .few, s .pre .0 .3, s .pre .1 .within, tiles-high (s .args .plan) (s .pre .0 .0))
 
 sub-tile : tie.Need-sub-tile Inv-loop μ-loop
 sub-tile c =
@@ -88,6 +95,7 @@ row-spec =
     smaller-requires
     add-link
     link-requires
+    cast-tile
     sub-tile
     sub-left
     sub-at

@@ -91,13 +91,6 @@ mul-top-2 c =
     let ready = row-ready (s .args .t1) (s .pre .0 .0) (s .args .level) (s .pre .0 .2) (s .pre .0 .1) (s .args .block) (l .i) (l .at) (s .args .nexts .now) (l .heads) (l .nexts) (l .inv) (omega arith) (s .args .length) (c .number-of .result) (s .pre .0 .3) (c .number-of .ensures) in
     omega (arith, ready .top-small)
 
-cast-row : tie.Need-cast-row Inv-loop μ-loop
-cast-row c =
-    let s = c .before .before .before .before .before .before .before .before .before in
-    let l = c .before .before .before .before .loop in
-    let ready = row-ready (s .args .t1) (s .pre .0 .0) (s .args .level) (s .pre .0 .2) (s .pre .0 .1) (s .args .block) (l .i) (l .at) (s .args .nexts .now) (l .heads) (l .nexts) (l .inv) (omega arith) (s .args .length) (c .number-of .result) (s .pre .0 .3) (c .number-of .ensures) in
-    omega (arith, ready .top-small)
-
 row-requires : tie.Need-row-requires Inv-loop μ-loop
 row-requires c κs =
     let s = c .before .before .before .before .before .before .before .before .before .before .before in
@@ -159,7 +152,6 @@ rows-spec =
     add-top
     add-top-2
     mul-top-2
-    cast-row
     row-requires
     lowered-requires
     loop-less
