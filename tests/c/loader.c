@@ -1,7 +1,9 @@
 /* A loader that walks the grid downward while it allocates (document 02, e). The pages of the second chain list may not be touched when the call
- * is made; each is handed out when the call first reaches it. The call must reach them from the last to the first, and find a page's places
- * written when it goes on to the next; before that they hold what was lent. Neighbouring places may be stored together, in any order: the
- * compiler's choice. So the lowest JOINED places of a page may still be as lent when the call has begun with the page below. */
+ * is made, so that they stay as lent; each is handed out when the call reaches it. The call must reach them from the last to the first, and when
+ * it goes on to a page, the tiles of the page above must be visited: their places written, and their owners' heads not above them.
+ *
+ * The compiler may store the places of neighbouring tiles together, in any order, and their heads after them. So the lowest JOINED tiles of a
+ * page are not looked at: four vectors of 16 numbers, the widest that x86-64 has. The last page must hold more places than that. */
 #define _DEFAULT_SOURCE
 #include <signal.h>
 #include <stdint.h>
@@ -15,13 +17,29 @@
 
 enum { JOINED = 64, LENT = 7, MOST = 5, N = MULTIPARTITION_PLAN_LENGTH };
 
-static size_t tiles, page, pages, left;
-static uint32_t *expected, *nexts;
+static uint32_t p;
+static size_t tiles, page, places, left; /* bytes and places of a page; pages that are not handed out yet */
+static uint32_t *heads, *nexts, *owners, *expected_heads, *expected_nexts;
 
 static void fail(const char *message)
 {
     fprintf(stderr, "loader: %s\n", message);
     _exit(EXIT_FAILURE);
+}
+
+/* Whether the tiles from place `low` on are visited, up to those of the page, and none that is lower. */
+static void check_visited(size_t low)
+{
+    size_t high = low + places < tiles ? low + places : tiles;
+    for (size_t i = low + JOINED; i < high; i++) {
+        if (nexts[i] != expected_nexts[i])
+            fail("a place above is not written yet");
+        if (heads[owners[i]] == 0 || heads[owners[i]] > i + 1)
+            fail("a head is not written yet");
+    }
+    for (uint32_t q = 0; q < p; q++)
+        if (heads[q] != 0 && heads[q] + JOINED <= low)
+            fail("a head is a tile that is not yet visited");
 }
 
 /* Hands out the next page down, if that is the one the call has reached. */
@@ -30,71 +48,91 @@ static void reached(int number, siginfo_t *about, void *context)
     (void)number;
     (void)context;
     const char *start = (const char *)nexts, *at = about->si_addr;
-    if (at < start || at >= start + pages * page)
-        fail("a write past the list");
+    if (at < start || (size_t)(at - start) / page >= (tiles + places - 1) / places)
+        fail("a fault outside the list");
     if (left == 0 || (size_t)(at - start) / page != left - 1)
         fail("a page out of order");
-    size_t low = left * page / sizeof *nexts;
-    size_t high = low + page / sizeof *nexts;
-    if (high > tiles)
-        high = tiles;
-    for (size_t i = low + JOINED; i < high; i++)
-        if (nexts[i] != expected[i])
-            fail("a place above is not written yet");
+    check_visited(left * places);
     left--;
     if (mprotect((char *)nexts + left * page, page, PROT_READ | PROT_WRITE) != 0)
         fail("mprotect");
-    low = left * page / sizeof *nexts;
-    for (size_t i = low; i < low + page / sizeof *nexts; i++)
-        if (nexts[i] != LENT)
-            fail("a place of a tile not yet visited is not as lent");
 }
 
-static void walk(uint32_t p, uint32_t d)
+static uint32_t *numbers(size_t count)
 {
-    const uint32_t extents[MOST] = {4096, 4096, 4096, 4096, 4096}, weights[MOST] = {1, 1, 1, 1, 1};
-    uint32_t plan[N];
-    if (multipartition_plan(p, d, extents, d, weights, d, plan, N) != MULTIPARTITION_ANSWERED)
-        fail("no plan");
-    tiles = 1;
-    for (uint32_t k = 0; k < d; k++)
-        tiles *= plan[MULTIPARTITION_CUTS + k];
-    uint32_t *heads = calloc(p, sizeof *heads), *loaded = calloc(p, sizeof *loaded);
-    expected = calloc(tiles, sizeof *expected);
-    page = (size_t)sysconf(_SC_PAGESIZE);
-    pages = left = (tiles * sizeof *nexts + page - 1) / page;
-    nexts = mmap(NULL, pages * page, PROT_READ | PROT_WRITE, MAP_PRIVATE | MAP_ANONYMOUS, -1, 0);
-    if (!heads || !loaded || !expected || nexts == MAP_FAILED)
+    uint32_t *made = calloc(count, sizeof *made);
+    if (made == NULL)
         fail("no memory");
-    if (multipartition_chains(plan, N, heads, p, expected, tiles) != MULTIPARTITION_ANSWERED)
-        fail("no chains");
-    for (size_t i = 0; i < pages * page / sizeof *nexts; i++)
+    return made;
+}
+
+static void load(const uint32_t *plan)
+{
+    size_t pages = left = (tiles + places - 1) / places;
+    nexts = mmap(NULL, pages * page, PROT_READ | PROT_WRITE, MAP_PRIVATE | MAP_ANONYMOUS, -1, 0);
+    if (nexts == MAP_FAILED)
+        fail("no memory");
+    for (size_t i = 0; i < pages * places; i++)
         nexts[i] = LENT;
     if (mprotect(nexts, pages * page, PROT_NONE) != 0)
         fail("mprotect");
-    if (multipartition_chains(plan, N, loaded, p, nexts, tiles) != MULTIPARTITION_ANSWERED)
+    if (multipartition_chains(plan, N, heads, p, nexts, tiles) != MULTIPARTITION_ANSWERED)
         fail("no chains in the loader");
     if (left != 0)
         fail("a page was never reached");
-    if (memcmp(heads, loaded, p * sizeof *heads) != 0 || memcmp(expected, nexts, tiles * sizeof *nexts) != 0)
+    if (memcmp(heads, expected_heads, p * sizeof *heads) != 0 || memcmp(nexts, expected_nexts, tiles * sizeof *nexts) != 0)
         fail("other chains");
+    for (size_t i = tiles; i < pages * places; i++)
+        if (nexts[i] != LENT)
+            fail("a place past the list is written");
     munmap(nexts, pages * page);
+}
+
+typedef uint64_t planner(uint32_t, uint32_t, const uint32_t *, size_t, const uint32_t *, size_t, uint32_t *, size_t);
+
+static void walk(planner *make, uint32_t processors, uint32_t d)
+{
+    const uint32_t extents[MOST] = {4096, 4096, 4096, 4096, 4096}, weights[MOST] = {1, 1, 1, 1, 1};
+    uint32_t plan[N];
+    if (make(processors, d, extents, d, weights, d, plan, N) != MULTIPARTITION_ANSWERED)
+        fail("no plan");
+    p = processors;
+    tiles = 1;
+    for (uint32_t k = 0; k < d; k++)
+        tiles *= plan[MULTIPARTITION_CUTS + k];
+    heads = numbers(p);
+    expected_heads = numbers(p);
+    expected_nexts = numbers(tiles);
+    owners = numbers(tiles);
+    if (multipartition_chains(plan, N, expected_heads, p, expected_nexts, tiles) != MULTIPARTITION_ANSWERED)
+        fail("no chains");
+    for (uint32_t q = 0; q < p; q++) {
+        heads[q] = LENT;
+        for (uint32_t tile = expected_heads[q]; tile != 0; tile = expected_nexts[tile - 1])
+            owners[tile - 1] = q;
+    }
+    load(plan);
     free(heads);
-    free(loaded);
-    free(expected);
+    free(expected_heads);
+    free(expected_nexts);
+    free(owners);
 }
 
 int main(void)
 {
     struct sigaction action = {.sa_sigaction = reached, .sa_flags = SA_SIGINFO};
     sigemptyset(&action.sa_mask);
-    if (sigaction(SIGSEGV, &action, NULL) != 0)
+    if (sigaction(SIGSEGV, &action, NULL) != 0 || sigaction(SIGBUS, &action, NULL) != 0)
         fail("sigaction");
-    /* Runs of a thousand tiles, of tens, and of a few; one that ends within a page. */
-    walk(1024, 2);
-    walk(4096, 3);
-    walk(1000, 4);
-    walk(3360, 5);
-    walk(997, 2);
+    page = (size_t)sysconf(_SC_PAGESIZE);
+    places = page / sizeof *nexts;
+    /* Runs of a thousand tiles, of tens and of a few, and, in the diagonal plans, tiles one by one. */
+    walk(multipartition_plan, 1024, 2);
+    walk(multipartition_plan, 4096, 3);
+    walk(multipartition_plan, 1000, 4);
+    walk(multipartition_plan, 3360, 5);
+    walk(multipartition_plan, 997, 2);
+    walk(multipartition_diagonal, 997, 2);
+    walk(multipartition_diagonal, 961, 3);
     return EXIT_SUCCESS;
 }

@@ -9,22 +9,41 @@ use crate::tiles::position_of;
 /// has none. The second, of one place a tile, holds the owner's next higher tile; zero ends the
 /// chain." Refused with 6 or 9, the lists keep their contents.
 pub fn chains(plan: &Plan, heads: &mut [u32], nexts: &mut [u32]) -> Result<(), Refusal> {
-    chains_in_stages(plan, heads, nexts, |_, _, _| ())
+    check(plan, heads, nexts)?;
+    let mut owned: Vec<Vec<u32>> = vec![Vec::new(); heads.len()];
+    for tile in 1..=nexts.len() as u32 {
+        let owner = owner_of(plan, &position_of(plan, tile));
+        owned[owner as usize].push(tile);
+    }
+    for (head, tiles) in heads.iter_mut().zip(&owned) {
+        *head = tiles.first().copied().unwrap_or(0);
+        for (at, &tile) in tiles.iter().enumerate() {
+            nexts[tile as usize - 1] = tiles.get(at + 1).copied().unwrap_or(0);
+        }
+    }
+    Ok(())
 }
 
-/// The same; "the chain call visits the highest tile first". `visited` is told each tile right after
-/// its visit, with the two lists as they then are.
+fn check(plan: &Plan, heads: &[u32], nexts: &[u32]) -> Result<(), Refusal> {
+    plan.check_shape()?;
+    if heads.len() != plan.p as usize || nexts.len() as u128 != plan.tiles() {
+        return Err(refusal::LIST);
+    }
+    Ok(())
+}
+
+/// The same lists, filled as request e has it: "the chain call visits the highest tile first".
+/// `visited` is told each tile right after its visit, with the two lists as they then are; before the
+/// first visit it is told the number of tiles plus one.
 pub fn chains_in_stages(
     plan: &Plan,
     heads: &mut [u32],
     nexts: &mut [u32],
     mut visited: impl FnMut(u32, &[u32], &[u32]),
 ) -> Result<(), Refusal> {
-    plan.check_shape()?;
-    if heads.len() != plan.p as usize || nexts.len() as u128 != plan.tiles() {
-        return Err(refusal::LIST);
-    }
+    check(plan, heads, nexts)?;
     heads.fill(0);
+    visited(nexts.len() as u32 + 1, heads, nexts);
     for tile in (1..=nexts.len() as u32).rev() {
         let owner = owner_of(plan, &position_of(plan, tile));
         let head = &mut heads[owner as usize];
@@ -73,7 +92,7 @@ mod tests {
         let owners = owners(plan);
         let lent: Vec<u32> = (0..owners.len() as u32).map(|i| 7 + 11 * i).collect();
         let (mut heads, mut nexts) = (vec![9; plan.p as usize], lent.clone());
-        let mut next = owners.len() as u32;
+        let mut next = owners.len() as u32 + 1;
         chains_in_stages(plan, &mut heads, &mut nexts, |tile, heads, nexts| {
             assert_eq!(tile, next);
             next -= 1;
@@ -82,6 +101,7 @@ mod tests {
         })
         .unwrap();
         assert_eq!(next, 0);
+        // From the processors' lists of tiles.
         let mut whole = (vec![8; plan.p as usize], vec![8; owners.len()]);
         chains(plan, &mut whole.0, &mut whole.1).unwrap();
         assert_eq!((heads, nexts), whole);
@@ -118,13 +138,14 @@ mod tests {
         })
         .unwrap();
         for (tile, heads, nexts) in [
+            (9, [0, 0, 0, 0], [7, 7, 7, 7, 7, 7, 7, 7]),
             (8, [8, 0, 0, 0], [7, 7, 7, 7, 7, 7, 7, 0]),
             (5, [8, 7, 5, 6], [7, 7, 7, 7, 0, 0, 0, 0]),
             (3, [8, 7, 4, 3], [7, 7, 6, 5, 0, 0, 0, 0]),
             (1, [1, 2, 4, 3], [8, 7, 6, 5, 0, 0, 0, 0]),
         ] {
             let stage = (tile, heads.to_vec(), nexts.to_vec());
-            assert_eq!(stages[8 - tile as usize], stage);
+            assert_eq!(stages[9 - tile as usize], stage);
         }
     }
 
