@@ -217,7 +217,8 @@ uint64_t multipartition_timetable(const uint32_t *plan, size_t plan_length,
 
 /* Which tiles each processor owns, as chains. `heads`, of p places, gets each processor's lowest tile, 0 if it has none; `nexts`, of one
  * place a tile, gets at place t - 1 the next higher tile of the owner of tile t, 0 at the chain's end. Refused with 6, 9.
- * `heads` is cleared first; then the tiles are visited from the highest down, and a place of `nexts` is written when its tile is visited. */
+ * `heads` is cleared first; then the tiles are visited from the highest down, and a place of `nexts` is written when its tile is visited.
+ * A program that looks at the lists while the call runs may find some neighbouring tiles visited together, their heads not yet written. */
 uint64_t multipartition_chains(const uint32_t *plan, size_t plan_length,
                                uint32_t *heads, size_t heads_length,
                                uint32_t *nexts, size_t nexts_length);
