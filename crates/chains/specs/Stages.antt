@@ -8,7 +8,7 @@ use Rattle.multipartition.specs.Questions.{tileOwner}
 use Rattle.layout.specs.declared.Plan.{Plan}
 use Rattle.layout.specs.Plans.{layoutOf}
 
--- the plan's tiles above t are visited, and the second list held `lent`
+-- the plan's tiles above t are visited, and the second list held `lent` before
 abbrev pub Visited : Plan → ℕ → List ℕ → List ℕ → List ℕ → Type 0
 Visited plan t lent heads nexts = Stage (tileOwner (layoutOf plan)) (tilesOf (layoutOf plan)) (plan .p) t lent heads nexts
 

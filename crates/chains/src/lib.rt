@@ -5,10 +5,9 @@ use layout::Plan;
 ghost use mathlib.Core.Bool.{true, false};
 ghost use mathlib.Core.Path.{_≡_};
 ghost use mathlib.Core.List.{[]};
-ghost use Prim.Native.Nat.{_+_, _-_, _*_, _<_, _≤_, min};
+ghost use Prim.Native.Nat.{_+_, _-_, _*_, _<_, _≤_, min, max};
 ghost use lib.ListN.{length, getD, take, replicate};
 ghost use Rattle.numbers.specs.Products.{product};
-ghost use Rattle.multipartition.specs.Chains.{headsOf, nextsOf};
 ghost use Rattle.multipartition.specs.MixedRadix.{numberFrom};
 ghost use Rattle.multipartition.specs.Neighbours.{turn};
 ghost use Rattle.multipartition.specs.Owners.{times};
@@ -145,24 +144,49 @@ fn row(
     }
 }
 
-// Visits a block whose blocks of the next level are rows.
+// Visits those of the tiles that are above `stop`.
+fn row_above(
+    plan: Plan,
+    base: usize,
+    m: usize,
+    c: usize,
+    top: u32,
+    count: usize,
+    stop: u32,
+    heads: &mut [u32],
+    nexts: &mut [u32],
+)
+    requires { ⌜ (Shaped plan) × (c < m) × (base + m ≤ plan .p) × (count ≤ top) × (OwnedBy plan top count (λ j. base + countDown m c j)) ⌝ }
+    requires { ⌜ Visited plan (max stop top) (now nexts) (now heads) (now nexts) ⌝ }
+    ensures { λ r. ⌜ Visited plan (max stop (top - count)) (now (nexts .entry)) (now (heads .exit)) (now (nexts .exit)) ⌝ }
+{
+    if top <= stop {
+        return;
+    }
+    let above = smaller(count, (top - stop) as usize);
+    row(plan, base, m, c, top, above, heads, nexts);
+}
+
+// Visits the tiles above `stop` of a block whose blocks of the next level are rows.
 fn rows(
     plan: Plan,
     level: usize,
     length: u32,
     block: u32,
     c: [u32; 5],
+    stop: u32,
     heads: &mut [u32],
     nexts: &mut [u32],
 )
     requires { ⌜ (Shaped plan) × (Depth plan (level + 1)) × (level < plan .d) × (length ≡ blockSize plan (level + 1)) ⌝ }
     requires { ⌜ Holds plan (blockTop plan level block) c ⌝ }
-    requires { ⌜ Visited plan (blockTop plan level block) (now nexts) (now heads) (now nexts) ⌝ }
-    ensures { λ r. ⌜ Visited plan (block * blockSize plan level) (now (nexts .entry)) (now (heads .exit)) (now (nexts .exit)) ⌝ }
+    requires { ⌜ Visited plan (max stop (blockTop plan level block)) (now nexts) (now heads) (now nexts) ⌝ }
+    ensures { λ r. ⌜ Visited plan (max stop (block * blockSize plan level)) (now (nexts .entry)) (now (heads .exit)) (now (nexts .exit)) ⌝ }
 {
     let d = plan.d;
     let last = d - 1;
     let m = plan.moduli[last] as usize;
+    let count = length as usize;
     let b = plan.cuts[level];
     let mut at = c;
     let mut i = b;
@@ -171,22 +195,13 @@ fn rows(
         let coordinate = at[last] as usize;
         let base = number_of(d, &plan.moduli, at) - coordinate;
         let top = (block * b + i + 1) * length;
-        row(
-            plan,
-            base,
-            m,
-            coordinate,
-            top,
-            length as usize,
-            heads,
-            nexts,
-        );
+        row_above(plan, base, m, coordinate, top, count, stop, heads, nexts);
         let next = lowered(d, level, &plan.moduli, &plan.matrix, at);
         at = next;
     }
 }
 
-// Visits a block, level by level down to rows.
+// Visits the tiles above `stop` of a block, level by level down to rows.
 fn walk(
     plan: Plan,
     depth: usize,
@@ -194,16 +209,17 @@ fn walk(
     level: usize,
     block: u32,
     c: [u32; 5],
+    stop: u32,
     heads: &mut [u32],
     nexts: &mut [u32],
 )
     requires { ⌜ (Shaped plan) × (Depth plan depth) × (level < depth) × (length ≡ blockSize plan depth) ⌝ }
     requires { ⌜ Holds plan (blockTop plan level block) c ⌝ }
-    requires { ⌜ Visited plan (blockTop plan level block) (now nexts) (now heads) (now nexts) ⌝ }
-    ensures { λ r. ⌜ Visited plan (block * blockSize plan level) (now (nexts .entry)) (now (heads .exit)) (now (nexts .exit)) ⌝ }
+    requires { ⌜ Visited plan (max stop (blockTop plan level block)) (now nexts) (now heads) (now nexts) ⌝ }
+    ensures { λ r. ⌜ Visited plan (max stop (block * blockSize plan level)) (now (nexts .entry)) (now (heads .exit)) (now (nexts .exit)) ⌝ }
 {
     if level + 1 == depth {
-        rows(plan, level, length, block, c, heads, nexts);
+        rows(plan, level, length, block, c, stop, heads, nexts);
         return;
     }
     let d = plan.d;
@@ -212,16 +228,8 @@ fn walk(
     let mut i = b;
     while 0 < i {
         i = i - 1;
-        walk(
-            plan,
-            depth,
-            length,
-            level + 1,
-            block * b + i,
-            at,
-            heads,
-            nexts,
-        );
+        let part = block * b + i;
+        walk(plan, depth, length, level + 1, part, at, stop, heads, nexts);
         let next = lowered(d, level, &plan.moduli, &plan.matrix, at);
         at = next;
     }
@@ -292,11 +300,11 @@ fn row_length(plan: Plan, depth: usize) -> u32
     1
 }
 
-// Visits all tiles, from the highest down.
-fn visit_all(plan: Plan, heads: &mut [u32], nexts: &mut [u32])
-    requires { ⌜ Shaped plan ⌝ }
+// Visits the tiles above `stop`, from the highest down.
+fn visit_above(plan: Plan, stop: u32, heads: &mut [u32], nexts: &mut [u32])
+    requires { ⌜ (Shaped plan) × (stop ≤ tilesOf (layoutOf plan)) ⌝ }
     requires { ⌜ Visited plan (tilesOf (layoutOf plan)) (now nexts) (now heads) (now nexts) ⌝ }
-    ensures { λ r. ⌜ Visited plan 0 (now (nexts .entry)) (now (heads .exit)) (now (nexts .exit)) ⌝ }
+    ensures { λ r. ⌜ Visited plan stop (now (nexts .entry)) (now (heads .exit)) (now (nexts .exit)) ⌝ }
 {
     let depth = depth_of(plan);
     let length = row_length(plan, depth);
@@ -307,18 +315,19 @@ fn visit_all(plan: Plan, heads: &mut [u32], nexts: &mut [u32])
         0,
         0,
         top_coordinates(plan),
+        stop,
         heads,
         nexts,
     );
 }
 
-// Both lists of the stated lengths are filled: the first is cleared, the second is as lent when the walk begins.
-fn fill(plan: Plan, heads: &mut [u32], nexts: &mut [u32])
-    requires { ⌜ (Shaped plan) × (length (now heads) ≡ plan .p) × (length (now nexts) ≡ tilesOf (layoutOf plan)) ⌝ }
-    ensures { λ r. ⌜ (now (heads .exit) ≡ headsOf (tileOwner (layoutOf plan)) (tilesOf (layoutOf plan)) (plan .p)) × (now (nexts .exit) ≡ nextsOf (tileOwner (layoutOf plan)) (tilesOf (layoutOf plan))) ⌝ }
+// Clears the first list and visits the tiles above `stop`: the walk as far as any of its stages. The chain call goes on to stage 0.
+fn fill(plan: Plan, stop: u32, heads: &mut [u32], nexts: &mut [u32])
+    requires { ⌜ (Shaped plan) × (stop ≤ tilesOf (layoutOf plan)) × (length (now heads) ≡ plan .p) × (length (now nexts) ≡ tilesOf (layoutOf plan)) ⌝ }
+    ensures { λ r. ⌜ Visited plan stop (now (nexts .entry)) (now (heads .exit)) (now (nexts .exit)) ⌝ }
 {
     clear(heads);
-    visit_all(plan, heads, nexts);
+    visit_above(plan, stop, heads, nexts);
 }
 
 // The first list gets each processor's lowest tile, the second, for each tile, its owner's next higher one.
@@ -343,6 +352,6 @@ pub fn chains(plan: Plan, heads: &mut [u32], nexts: &mut [u32]) -> Chained
             place: 0,
         };
     }
-    fill(plan, heads, nexts);
+    fill(plan, 0, heads, nexts);
     Chained::Done
 }

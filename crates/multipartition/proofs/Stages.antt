@@ -16,11 +16,11 @@ use Rattle.multipartition.proofs.Chains.{length-listOf, getD-listOf}
 -- ---- the first list
 
 module _ (own : ℕ → ℕ) (n p : ℕ) where
-  pub length-heads-at : (t : ℕ) → length (headsAt own n p t) ≡ p
+  length-heads-at : (t : ℕ) → length (headsAt own n p t) ≡ p
   unfolding headsAt
   length-heads-at t = length-listOf 0 p _
 
-  pub head-at : (t q : ℕ) → q < p → getD (headsAt own n p t) q 0 ≡ lowest own q (suc t) (n - t)
+  head-at : (t q : ℕ) → q < p → getD (headsAt own n p t) q 0 ≡ lowest own q (suc t) (n - t)
   unfolding headsAt
   head-at t q l =
       let e : 0 + q ≡ q = omega arith in
@@ -59,7 +59,7 @@ module _ (own : ℕ → ℕ) (n p : ℕ) where
 -- ---- the second list
 
 module _ (own : ℕ → ℕ) (n : ℕ) where
-  pub length-nexts-at : (lent : List ℕ) (t : ℕ) → length lent ≡ n → t ≤ n → length (nextsAt own n lent t) ≡ n
+  length-nexts-at : (lent : List ℕ) (t : ℕ) → length lent ≡ n → t ≤ n → length (nextsAt own n lent t) ≡ n
   unfolding nextsAt
   length-nexts-at lent t long within =
       length-append (take t lent) (listOf (suc t) (n - t) (nextHigher own n))

@@ -45,7 +45,7 @@ headsAt own n p t = listOf 0 p (λ q. lowest own q (suc t) (n - t))
 unfoldable pub nextsAt : (ℕ → ℕ) → ℕ → List ℕ → ℕ → List ℕ
 nextsAt own n lent t = take t lent ++ listOf (suc t) (n - t) (nextHigher own n)
 
--- the two lists at stage t, where the second, of one place a tile, held `lent`
+-- the two lists at stage t of a walk before which the second, of one place a tile, held `lent`
 pub record Stage (own : ℕ → ℕ) (n p t : ℕ) (lent heads nexts : List ℕ) : Type 0 where
   pub within : t ≤ n
   pub lent-length : length lent ≡ n

@@ -1,5 +1,5 @@
 -- The starred grids of document 01, "Grids to try", with the figures that its table names. Document 02, request a: "Every cost in document 01 drops by
--- the sum of its weights".
+-- the sum of its weights". Of request e, five stages of the chains of 4 on 8 8 8.
 use mathlib.Core.Bool.{true}
 use mathlib.Core.List.{List, [], _∷_, map}
 use mathlib.Core.Option.{Option, some}
@@ -13,7 +13,7 @@ use Rattle.multipartition.specs.Plans.{Layout, jobWith, tilesOf}
 use Rattle.multipartition.specs.Questions.{tileOwner}
 use Rattle.multipartition.specs.Jobs.{planAnswer}
 
--- a figure of the table
+-- a figure of the table, or a stage
 pub data Figure : Type 0 where
   cuts : List ℕ → Figure
   cost : ℕ → Figure
@@ -24,7 +24,7 @@ pub data Figure : Type 0 where
   up : ℕ → List (Option ℕ) → Figure
   heads : List ℕ → Figure
   nexts : List ℕ → Figure
-  -- document 02, request e: the two chain lists when the tiles above t are visited, where the second held the list named first
+  -- the two chain lists at stage t, where the second held the list named first
   stage : ℕ → List ℕ → List ℕ → List ℕ → Figure
   -- the job is turned down with this number and place
   turned-down : ℕ → ℕ → Figure

@@ -38,10 +38,10 @@ calls t = (
 )
 
 abbrev Inv-loop : walk-lts.InvT-loop
-Inv-loop depth length level block heads₀ nexts₀ plan d b at₀ i₀ heads nexts at i = BlockStage plan level block i at nexts₀ heads nexts
+Inv-loop depth length level block stop heads₀ nexts₀ plan d b at₀ i₀ heads nexts at i = BlockStage plan stop level block i at nexts₀ heads nexts
 
 abbrev μ-loop : walk-lts.MeasureT-loop
-μ-loop depth length level block heads₀ nexts₀ plan d b at₀ i₀ heads nexts at i = i
+μ-loop depth length level block stop heads₀ nexts₀ plan d b at₀ i₀ heads nexts at i = i
 
 module _ (t : ℕ) where
   add-if1 : walk-lts.Need-add-if1 (calls t) (walk-at t) walk.Post Inv-loop μ-loop
@@ -73,27 +73,27 @@ module _ (t : ℕ) where
   loop-holds c =
       let s = c .before .before .before .before in
       let level : s .args .level < s .args .t1 .d = omega (arith, s .pre .1 .0 .2, s .pre .1 .0 .1 .high) in
-      block-start (s .args .t1) (s .pre .1 .0 .0) (s .args .level) level (s .args .block) (s .args .c) (s .args .heads .now) (s .args .nexts .now) (s .pre .1 .1 .0) (s .pre .1 .1 .1)
+      block-start (s .args .t1) (s .pre .1 .0 .0) (s .args .stop) (s .args .level) level (s .args .block) (s .args .c) (s .args .heads .now) (s .args .nexts .now) (s .pre .1 .1 .0) (s .pre .1 .1 .1)
 
   sub-i : walk-lts.Need-sub-i (calls t) (walk-at t) walk.Post Inv-loop μ-loop
   sub-i c = search needs
 
+  mul-part : walk-lts.Need-mul-part (calls t) (walk-at t) walk.Post Inv-loop μ-loop
+  mul-part c =
+      let s = c .before .before .before .before .before .before in
+      let l = c .before .loop in
+      let level : s .args .level < s .args .t1 .d = omega (arith, s .pre .1 .0 .2, s .pre .1 .0 .1 .high) in
+      omega (arith, inner-small (s .args .t1) (s .pre .1 .0 .0) (s .args .stop) (s .args .level) level (s .args .block) (l .i) (l .at) (s .args .nexts .now) (l .heads) (l .nexts) (l .inv) (omega arith))
+
+  add-part : walk-lts.Need-add-part (calls t) (walk-at t) walk.Post Inv-loop μ-loop
+  add-part c =
+      let s = c .before .before .before .before .before .before in
+      let l = c .before .loop in
+      let level : s .args .level < s .args .t1 .d = omega (arith, s .pre .1 .0 .2, s .pre .1 .0 .1 .high) in
+      omega (arith, inner-small (s .args .t1) (s .pre .1 .0 .0) (s .args .stop) (s .args .level) level (s .args .block) (l .i) (l .at) (s .args .nexts .now) (l .heads) (l .nexts) (l .inv) (omega arith))
+
   add-walk : walk-lts.Need-add-walk (calls t) (walk-at t) walk.Post Inv-loop μ-loop
   add-walk c = let s = c .before .before .before .before .before .before in omega (arith, s .pre .1 .0 .2, s .pre .1 .0 .1 .high, s .pre .1 .0 .0 .d-high)
-
-  mul-walk : walk-lts.Need-mul-walk (calls t) (walk-at t) walk.Post Inv-loop μ-loop
-  mul-walk c =
-      let s = c .before .before .before .before .before .before in
-      let l = c .before .loop in
-      let level : s .args .level < s .args .t1 .d = omega (arith, s .pre .1 .0 .2, s .pre .1 .0 .1 .high) in
-      omega (arith, inner-small (s .args .t1) (s .pre .1 .0 .0) (s .args .level) level (s .args .block) (l .i) (l .at) (s .args .nexts .now) (l .heads) (l .nexts) (l .inv) (omega arith))
-
-  add-walk-2 : walk-lts.Need-add-walk-2 (calls t) (walk-at t) walk.Post Inv-loop μ-loop
-  add-walk-2 c =
-      let s = c .before .before .before .before .before .before in
-      let l = c .before .loop in
-      let level : s .args .level < s .args .t1 .d = omega (arith, s .pre .1 .0 .2, s .pre .1 .0 .1 .high) in
-      omega (arith, inner-small (s .args .t1) (s .pre .1 .0 .0) (s .args .level) level (s .args .block) (l .i) (l .at) (s .args .nexts .now) (l .heads) (l .nexts) (l .inv) (omega arith))
 
   walk-requires : walk-lts.Need-walk-requires (calls t) (walk-at t) walk.Post Inv-loop μ-loop
   walk-requires c κs =
@@ -103,7 +103,7 @@ module _ (t : ℕ) where
       let low : 1 ≤ l .i = c .before .before .loop-test .taken in
       let deeper : s .args .level + 1 < s .args .depth = omega (arith, s .pre .1 .0 .2, c .before .before .before .before .before .if1 .left) in (
         omega (arith, s .pre .0, deeper),
-        ((s .pre .1 .0 .0, s .pre .1 .0 .1, deeper, s .pre .1 .0 .3), (inner-ready (s .args .t1) (s .pre .1 .0 .0) (s .args .level) level (s .args .block) (l .i) (l .at) (s .args .nexts .now) (l .heads) (l .nexts) (l .inv) low .1, inner-visited (s .args .t1) (s .pre .1 .0 .0) (s .args .level) level (s .args .block) (l .i) (l .at) (s .args .nexts .now) (l .heads) (l .nexts) (l .inv) low)),
+        ((s .pre .1 .0 .0, s .pre .1 .0 .1, deeper, s .pre .1 .0 .3), (inner-ready (s .args .t1) (s .pre .1 .0 .0) (s .args .stop) (s .args .level) level (s .args .block) (l .i) (l .at) (s .args .nexts .now) (l .heads) (l .nexts) (l .inv) low .1, inner-visited (s .args .t1) (s .pre .1 .0 .0) (s .args .stop) (s .args .level) level (s .args .block) (l .i) (l .at) (s .args .nexts .now) (l .heads) (l .nexts) (l .inv) low)),
       )
 
   lowered-requires : walk-lts.Need-lowered-requires (calls t) (walk-at t) walk.Post Inv-loop μ-loop
@@ -121,7 +121,7 @@ module _ (t : ℕ) where
       let s = c .before .before .before .before .before .before .before .before .before .before .before .before .before .before .before .before .before in
       let l = c .before .before .before .before .before .before .before .before .before .before .before .before .loop in
       let level : s .args .level < s .args .t1 .d = omega (arith, s .pre .1 .0 .2, s .pre .1 .0 .1 .high) in
-      block-step (s .args .t1) (s .pre .1 .0 .0) (s .args .level) level (s .args .block) (l .i) (l .at) (s .args .nexts .now) (l .heads) (l .nexts) (l .inv) (c .before .before .before .before .before .before .before .before .before .before .before .loop-test .taken) (c .lowered .result) _ _ (c .before .before .before .before .before .before .before .before .walk .ensures) (c .lowered .ensures)
+      block-step (s .args .t1) (s .pre .1 .0 .0) (s .args .stop) (s .args .level) level (s .args .block) (l .i) (l .at) (s .args .nexts .now) (l .heads) (l .nexts) (l .inv) (c .before .before .before .before .before .before .before .before .before .before .before .loop-test .taken) (c .lowered .result) _ _ (c .before .before .before .before .before .before .before .before .walk .ensures) (c .lowered .ensures)
 
   same-length-3 : walk-lts.Need-same-length-3 (calls t) (walk-at t) walk.Post Inv-loop μ-loop
   same-length-3 c = let s = c .before .before .before .before .before .before in heads-length (c .before .loop .inv .visited) ∙ sym (heads-length (s .pre .1 .1 .1))
@@ -134,7 +134,7 @@ module _ (t : ℕ) where
       let s = c .before .before .before .before .before .before in
       let l = c .before .loop in
       let level : s .args .level < s .args .t1 .d = omega (arith, s .pre .1 .0 .2, s .pre .1 .0 .1 .high) in
-      block-end (s .args .t1) (s .pre .1 .0 .0) (s .args .level) level (s .args .block) (l .i) (l .at) (s .args .nexts .now) (l .heads) (l .nexts) (l .inv) (omega arith)
+      block-end (s .args .t1) (s .pre .1 .0 .0) (s .args .stop) (s .args .level) level (s .args .block) (l .i) (l .at) (s .args .nexts .now) (l .heads) (l .nexts) (l .inv) (omega arith)
 
 pub +walk-spec : {M : Type 1} → statement M
 +walk-spec = close μ-walk λ t. walk-lts.spec (calls t) (walk-at t) walk.Post Inv-loop μ-loop
@@ -147,9 +147,9 @@ pub +walk-spec : {M : Type 1} → statement M
     (element-copy-out-b t)
     (loop-holds t)
     (sub-i t)
+    (mul-part t)
+    (add-part t)
     (add-walk t)
-    (mul-walk t)
-    (add-walk-2 t)
     (walk-requires t)
     (lowered-requires t)
     (loop-less t)

@@ -1,7 +1,9 @@
 -- `chains` meets its contract.
 use mathlib.Core.Path.{sym, _∙_}
+use native.Mathlib.Omega.{arith}
 use borrow.Author.Tests.{not-true, not-false}
 use borrow.Author.Needs.{needs}
+use Rattle.multipartition.proofs.Stages.{stage-end}
 use Rattle.layout.specs.Plans.{layoutOf}
 use Rattle.layout.proofs.Shaped.{shaped}
 use Rattle.chains.proofs.Outcomes.{out-of-shape, other-heads, other-nexts, filled}
@@ -38,7 +40,7 @@ returns-3 c =
 fill-requires : tie.Need-fill-requires
 fill-requires c κs =
     let s = c .before .before .before .before .before .before .before .before .before .before in
-    (shaped _ (sym (c .before .before .before .before .before .before .before .in-shape .ensures) ∙ not-false (c .before .before .before .before .before .before .before .in-shape .result) (c .before .before .before .before .before .before .if1 .left)), c .before .before .before .before .if2 .left, c .before .before .if3 .left ∙ c .before .before .before .tile-count .ensures)
+    (shaped _ (sym (c .before .before .before .before .before .before .before .in-shape .ensures) ∙ not-false (c .before .before .before .before .before .before .before .in-shape .result) (c .before .before .before .before .before .before .if1 .left)), omega arith, c .before .before .before .before .if2 .left, c .before .before .if3 .left ∙ c .before .before .before .tile-count .ensures)
 
 same-length : tie.Need-same-length
 same-length c = search needs
@@ -51,7 +53,7 @@ unfolding layoutOf
 returns-4 c =
     let s = c .before .before .before .before .before .before .before .before .before .before .before .before .before .before .before in
     filled (layoutOf (s .args .plan)) (s .args .heads .now) (s .args .nexts .now) (sym (c .before .before .before .before .before .before .before .before .before .before .before .before .in-shape .ensures) ∙ not-false (c .before .before .before .before .before .before .before .before .before .before .before .before .in-shape .result) (c .before .before .before .before .before .before .before .before .before .before .before .if1 .left))
-    (c .before .before .before .before .before .before .before .before .before .if2 .left) _ _ (c .before .before .before .before .before .before .before .if3 .left ∙ c .before .before .before .before .before .before .before .before .tile-count .ensures) (c .before .before .before .before .fill .ensures)
+    (c .before .before .before .before .before .before .before .before .before .if2 .left) _ _ (c .before .before .before .before .before .before .before .if3 .left ∙ c .before .before .before .before .before .before .before .before .tile-count .ensures) (stage-end _ _ _ _ _ _ (c .before .before .before .before .fill .ensures))
 
 pub chains-spec : {M : Type 1} → statement M
 chains-spec =

@@ -1,8 +1,8 @@
--- `fill` meets its contract: the walk begins where no tile is visited and ends where all are.
+-- `fill` meets its contract: the walk begins where no tile is visited.
 use borrow.Author.Needs.{needs}
 use Rattle.multipartition.specs.Plans.{tilesOf}
 use Rattle.multipartition.specs.Questions.{tileOwner}
-use Rattle.multipartition.proofs.Stages.{stage-start, stage-end}
+use Rattle.multipartition.proofs.Stages.{stage-start}
 use Rattle.layout.specs.Plans.{layoutOf}
 use Rattle.chains.proofs.fill.Statement.{statement}
 use Rattle.chains.proofs.fill.Tie as tie
@@ -10,12 +10,12 @@ use Rattle.chains.proofs.fill.Tie as tie
 clear-requires : tie.Need-clear-requires
 clear-requires c κs = search needs
 
-visit-all-requires : tie.Need-visit-all-requires
-visit-all-requires c κs =
+visit-above-requires : tie.Need-visit-above-requires
+visit-above-requires c κs =
     let s = c .before .before .before .before .before .before .before .before in (
-      s .pre .0,
-      rw (c .before .before .before .before .clear .ensures, s .pre .1)
-          (stage-start (tileOwner (layoutOf (s .args .plan))) (tilesOf (layoutOf (s .args .plan))) (s .args .plan .p) (s .args .nexts .now) (s .pre .2)),
+      (s .pre .0, s .pre .1),
+      rw (c .before .before .before .before .clear .ensures, s .pre .2)
+          (stage-start (tileOwner (layoutOf (s .args .plan))) (tilesOf (layoutOf (s .args .plan))) (s .args .plan .p) (s .args .nexts .now) (s .pre .3)),
     )
 
 same-length : tie.Need-same-length
@@ -25,10 +25,7 @@ same-length-2 : tie.Need-same-length-2
 same-length-2 c = search needs
 
 returns : tie.Need-returns
-returns c =
-    let s = c .before .before .before .before .before .before .before .before .before .before .before .before .before in
-    stage-end (tileOwner (layoutOf (s .args .plan))) (tilesOf (layoutOf (s .args .plan))) (s .args .plan .p) _ _ _
-    (c .before .before .before .before .visit-all .ensures)
+returns c = c .before .before .before .before .visit-above .ensures
 
 pub fill-spec : {M : Type 1} → statement M
-fill-spec = tie.close (tie.spec clear-requires visit-all-requires same-length same-length-2 returns)
+fill-spec = tie.close (tie.spec clear-requires visit-above-requires same-length same-length-2 returns)

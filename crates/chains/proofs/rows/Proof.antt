@@ -1,7 +1,8 @@
 -- `rows` meets its contract.
 use mathlib.Core.Path.{sym, _∙_}
-use Prim.Native.Nat.{_-_, _<_, _≤_}
+use Prim.Native.Nat.{_+_, _-_, _*_, _<_, _≤_}
 use native.Mathlib.Omega.{arith}
+use lib.ListN.{getD}
 use borrow.Author.Needs.{needs}
 use Rattle.multipartition.proofs.Stages.{heads-length, nexts-length}
 use Rattle.chains.proofs.Blocks.{moduli-factors, moduli-small, entries}
@@ -10,10 +11,10 @@ use Rattle.chains.proofs.rows.Statement.{statement}
 use Rattle.chains.proofs.rows.Tie as tie
 
 abbrev Inv-loop : tie.InvT-loop
-Inv-loop level length block heads₀ nexts₀ plan d last m b at₀ i₀ heads nexts at i = BlockStage plan level block i at nexts₀ heads nexts
+Inv-loop level length block stop heads₀ nexts₀ plan d last m count b at₀ i₀ heads nexts at i = BlockStage plan stop level block i at nexts₀ heads nexts
 
 abbrev μ-loop : tie.MeasureT-loop
-μ-loop level length block heads₀ nexts₀ plan d last m b at₀ i₀ heads nexts at i = i
+μ-loop level length block stop heads₀ nexts₀ plan d last m count b at₀ i₀ heads nexts at i = i
 
 sub-last : tie.Need-sub-last Inv-loop μ-loop
 sub-last c = omega (arith, c .before .before .pre .0 .0 .d-low, c .before .before .pre .0 .0 .d-high)
@@ -38,7 +39,7 @@ element-copy-out-b c = omega (arith, c .before .before .before .pre .0 .2, c .be
 
 loop-holds : tie.Need-loop-holds Inv-loop μ-loop
 loop-holds c =
-    let s = c .before .before .before .before in block-start (s .args .t1) (s .pre .0 .0) (s .args .level) (s .pre .0 .2) (s .args .block) (s .args .c) (s .args .heads .now) (s .args .nexts .now) (s .pre .1 .0) (s .pre .1 .1)
+    let s = c .before .before .before .before in block-start (s .args .t1) (s .pre .0 .0) (s .args .stop) (s .args .level) (s .pre .0 .2) (s .args .block) (s .args .c) (s .args .heads .now) (s .args .nexts .now) (s .pre .1 .0) (s .pre .1 .1)
 
 sub-i : tie.Need-sub-i Inv-loop μ-loop
 sub-i c = search needs
@@ -64,38 +65,38 @@ sub-base : tie.Need-sub-base Inv-loop μ-loop
 sub-base c =
     let s = c .before .before .before .before .before .before .before .before .before in
     let l = c .before .before .before .before .loop in
-    row-ready (s .args .t1) (s .pre .0 .0) (s .args .level) (s .pre .0 .2) (s .pre .0 .1) (s .args .block) (l .i) (l .at) (s .args .nexts .now) (l .heads) (l .nexts) (l .inv) (omega arith) (s .args .length) (c .number-of .result) (s .pre .0 .3) (c .number-of .ensures) .coordinate-within
+    row-ready (s .args .t1) (s .pre .0 .0) (s .args .stop) (s .args .level) (s .pre .0 .2) (s .pre .0 .1) (s .args .block) (l .i) (l .at) (s .args .nexts .now) (l .heads) (l .nexts) (l .inv) (omega arith) (s .args .length) (c .number-of .result) (s .pre .0 .3) (c .number-of .ensures) .coordinate-within
 
 mul-top : tie.Need-mul-top Inv-loop μ-loop
 mul-top c =
     let s = c .before .before .before .before .before .before .before .before .before in
     let l = c .before .before .before .before .loop in
-    omega (arith, inner-small (s .args .t1) (s .pre .0 .0) (s .args .level) (s .pre .0 .2) (s .args .block) (l .i) (l .at) (s .args .nexts .now) (l .heads) (l .nexts) (l .inv) (omega arith))
+    omega (arith, inner-small (s .args .t1) (s .pre .0 .0) (s .args .stop) (s .args .level) (s .pre .0 .2) (s .args .block) (l .i) (l .at) (s .args .nexts .now) (l .heads) (l .nexts) (l .inv) (omega arith))
 
 add-top : tie.Need-add-top Inv-loop μ-loop
 add-top c =
     let s = c .before .before .before .before .before .before .before .before .before in
     let l = c .before .before .before .before .loop in
-    omega (arith, inner-small (s .args .t1) (s .pre .0 .0) (s .args .level) (s .pre .0 .2) (s .args .block) (l .i) (l .at) (s .args .nexts .now) (l .heads) (l .nexts) (l .inv) (omega arith))
+    omega (arith, inner-small (s .args .t1) (s .pre .0 .0) (s .args .stop) (s .args .level) (s .pre .0 .2) (s .args .block) (l .i) (l .at) (s .args .nexts .now) (l .heads) (l .nexts) (l .inv) (omega arith))
 
 add-top-2 : tie.Need-add-top-2 Inv-loop μ-loop
 add-top-2 c =
     let s = c .before .before .before .before .before .before .before .before .before in
     let l = c .before .before .before .before .loop in
-    omega (arith, inner-small (s .args .t1) (s .pre .0 .0) (s .args .level) (s .pre .0 .2) (s .args .block) (l .i) (l .at) (s .args .nexts .now) (l .heads) (l .nexts) (l .inv) (omega arith))
+    omega (arith, inner-small (s .args .t1) (s .pre .0 .0) (s .args .stop) (s .args .level) (s .pre .0 .2) (s .args .block) (l .i) (l .at) (s .args .nexts .now) (l .heads) (l .nexts) (l .inv) (omega arith))
 
 mul-top-2 : tie.Need-mul-top-2 Inv-loop μ-loop
 mul-top-2 c =
     let s = c .before .before .before .before .before .before .before .before .before in
     let l = c .before .before .before .before .loop in
-    let ready = row-ready (s .args .t1) (s .pre .0 .0) (s .args .level) (s .pre .0 .2) (s .pre .0 .1) (s .args .block) (l .i) (l .at) (s .args .nexts .now) (l .heads) (l .nexts) (l .inv) (omega arith) (s .args .length) (c .number-of .result) (s .pre .0 .3) (c .number-of .ensures) in
+    let ready = row-ready (s .args .t1) (s .pre .0 .0) (s .args .stop) (s .args .level) (s .pre .0 .2) (s .pre .0 .1) (s .args .block) (l .i) (l .at) (s .args .nexts .now) (l .heads) (l .nexts) (l .inv) (omega arith) (s .args .length) (c .number-of .result) (s .pre .0 .3) (c .number-of .ensures) in
     omega (arith, ready .top-small)
 
-row-requires : tie.Need-row-requires Inv-loop μ-loop
-row-requires c κs =
+row-above-requires : tie.Need-row-above-requires Inv-loop μ-loop
+row-above-requires c κs =
     let s = c .before .before .before .before .before .before .before .before .before .before .before in
     let l = c .before .before .before .before .before .before .loop in
-    let ready = row-ready (s .args .t1) (s .pre .0 .0) (s .args .level) (s .pre .0 .2) (s .pre .0 .1) (s .args .block) (l .i) (l .at) (s .args .nexts .now) (l .heads) (l .nexts) (l .inv) (omega arith) (s .args .length) (c .before .before .number-of .result) (s .pre .0 .3) (c .before .before .number-of .ensures) in
+    let ready = row-ready (s .args .t1) (s .pre .0 .0) (s .args .stop) (s .args .level) (s .pre .0 .2) (s .pre .0 .1) (s .args .block) (l .i) (l .at) (s .args .nexts .now) (l .heads) (l .nexts) (l .inv) (omega arith) (s .args .length) (c .before .before .number-of .result) (s .pre .0 .3) (c .before .before .number-of .ensures) in
     ((s .pre .0 .0, ready .coordinate-below, ready .base-high, ready .count-fits, ready .owned), ready .visited)
 
 lowered-requires : tie.Need-lowered-requires Inv-loop μ-loop
@@ -112,10 +113,9 @@ loop-again c =
     let s = c .before .before .before .before .before .before .before .before .before .before .before .before .before .before .before .before .before .before .before .before in
     let l = c .before .before .before .before .before .before .before .before .before .before .before .before .before .before .before .loop in
     let low : 1 ≤ l .i = c .before .before .before .before .before .before .before .before .before .before .before .before .before .before .loop-test .taken in
-    let q = c .before .before .before .before .before .before .before .before .before .before .before .number-of in
-    let end = row-end-is (s .args .t1) (s .pre .0 .0) (s .args .level) (s .pre .0 .2) (s .pre .0 .1) (s .args .block) (l .i) (l .at) (s .args .nexts .now) (l .heads) (l .nexts) (l .inv) low (s .args .length) (q .result) (s .pre .0 .3) (q .ensures) in
-    block-step (s .args .t1) (s .pre .0 .0) (s .args .level) (s .pre .0 .2) (s .args .block) (l .i) (l .at) (s .args .nexts .now) (l .heads) (l .nexts) (l .inv) low (c .lowered .result) _ _
-    (rw end at (c .before .before .before .before .before .before .before .before .row .ensures)) (c .lowered .ensures)
+    let end = row-end-is (s .args .block * getD (s .args .t1 .cuts) (s .args .level) 0 + (l .i - 1)) (s .args .length) _ (s .pre .0 .3) in
+    block-step (s .args .t1) (s .pre .0 .0) (s .args .stop) (s .args .level) (s .pre .0 .2) (s .args .block) (l .i) (l .at) (s .args .nexts .now) (l .heads) (l .nexts) (l .inv) low (c .lowered .result) _ _
+    (rw end at (c .before .before .before .before .before .before .before .before .row-above .ensures)) (c .lowered .ensures)
 
 same-length : tie.Need-same-length Inv-loop μ-loop
 same-length c = let s = c .before .before .before .before .before .before in heads-length (c .before .loop .inv .visited) ∙ sym (heads-length (s .pre .1 .1))
@@ -127,7 +127,7 @@ returns : tie.Need-returns Inv-loop μ-loop
 returns c =
     let s = c .before .before .before .before .before .before in
     let l = c .before .loop in
-    block-end (s .args .t1) (s .pre .0 .0) (s .args .level) (s .pre .0 .2) (s .args .block) (l .i) (l .at) (s .args .nexts .now) (l .heads) (l .nexts) (l .inv) (omega arith)
+    block-end (s .args .t1) (s .pre .0 .0) (s .args .stop) (s .args .level) (s .pre .0 .2) (s .args .block) (l .i) (l .at) (s .args .nexts .now) (l .heads) (l .nexts) (l .inv) (omega arith)
 
 pub rows-spec : {M : Type 1} → statement M
 rows-spec =
@@ -152,7 +152,7 @@ rows-spec =
     add-top
     add-top-2
     mul-top-2
-    row-requires
+    row-above-requires
     lowered-requires
     loop-less
     loop-again
