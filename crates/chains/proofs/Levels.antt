@@ -17,15 +17,6 @@ use Rattle.chains.specs.Walks.{Holds, Below, Lowered, blockSize, blockTo
 use Rattle.chains.proofs.Runs.{last-within, base-fits, row-owners}
 use Rattle.chains.proofs.Blocks.{tiles-high, size-positive, size-next, below-of-holds, lowered-holds}
 
-le-suc-times : (a n : ℕ) → n ≤ (a + 1) * n
-le-suc-times a n = omega arith
-
-le-of-max : (a b : ℕ) {n : ℕ} → max a b ≤ n → b ≤ n
-le-of-max a b l = omega arith
-
-max-rises : (a : ℕ) {b c : ℕ} → b ≤ c → max a b ≤ max a c
-max-rises a l = omega arith
-
 -- the number of the tile at the top of the part of a block in which i blocks of the next level are
 abbrev partTop : Plan → ℕ → ℕ → ℕ → ℕ
 partTop plan level block i = (block * getD (plan .cuts) level 0 + i) * blockSize plan (suc level)
@@ -58,7 +49,7 @@ module _ (plan : Plan) (s : Shaped plan) (stop level : ℕ) (l : level < plan .d
 
   module _ (i : ℕ) (at lent heads nexts : List ℕ) (b : BlockStage plan stop level block i at lent heads nexts) (low : 1 ≤ i) where
     part-within : partTop plan level block i ≤ tilesOf (layoutOf plan)
-    part-within = le-of-max stop (partTop plan level block i) (b .visited .within)
+    part-within = omega (arith, b .visited .within)
 
     inner-top : partTop plan level block i ≡ blockTop plan (level + 1) (block * getD (plan .cuts) level 0 + (i - 1))
     inner-top =
@@ -68,10 +59,8 @@ module _ (plan : Plan) (s : Shaped plan) (stop level : ℕ) (l : level < plan .d
     -- the highest of the blocks may be visited
     pub inner-ready : (blockTop plan (level + 1) (block * getD (plan .cuts) level 0 + (i - 1)) ≤ tilesOf (layoutOf plan))
         × Holds plan (blockTop plan (level + 1) (block * getD (plan .cuts) level 0 + (i - 1))) at
-    inner-ready = rw (← inner-top) (part-within, b .holds low)
-
-    pub inner-visited : Visited plan (max stop (blockTop plan (level + 1) (block * getD (plan .cuts) level 0 + (i - 1)))) nexts heads nexts
-    inner-visited = rw (← inner-top) (stage-afresh (b .visited))
+        × Visited plan (max stop (blockTop plan (level + 1) (block * getD (plan .cuts) level 0 + (i - 1)))) nexts heads nexts
+    inner-ready = rw (← inner-top) (part-within, b .holds low, stage-afresh (b .visited))
 
     -- its number fits
     pub inner-small : block * getD (plan .cuts) level 0 + (i - 1) < 16777216
@@ -95,7 +84,7 @@ module _ (plan : Plan) (s : Shaped plan) (stop level : ℕ) (l : level < plan .d
           few = omega (arith, b .few);
           below = r .below;
           visited =
-              stage-onward (b .visited) (max-rises stop (mul-le-mul-right (blockSize plan (suc level)) fewer)) (rw (add-one level) at v);
+              stage-onward (b .visited) (omega (arith, mul-le-mul-right (blockSize plan (suc level)) fewer)) (rw (add-one level) at v);
           holds = λ more.
               let two : i ≡ suc (suc (i - 2)) = omega arith in
               let one : suc (i - 2) ≡ i - 1 = omega arith in
@@ -133,10 +122,10 @@ module _ (plan : Plan) (s : Shaped plan) (stop level : ℕ) (l : level < plan .d
         coordinate-below = b .below .at (plan .d - 1) (omega (arith, s .d-low));
         coordinate-within = rw number-is (last-within plan s at (b .below));
         base-high = rw number-is (base-fits plan s at (b .below));
-        count-fits = le-suc-times inner count;
+        count-fits = omega arith;
         top-small = omega (arith, row-top, ready .0, tiles-high plan s);
         owned = λ j m. rw (row-top, number-is) (row-owners plan s inner at (level + 1) deep (ready .0) (ready .1) j (rw (← count-is) m));
-        visited = rw row-top (inner-visited plan s stop level l block i at lent heads nexts b low);
+        visited = rw row-top (ready .2);
       }
 
 -- a row ends where the one below it begins

@@ -13,7 +13,7 @@ ghost use Rattle.multipartition.specs.Neighbours.{turn};
 ghost use Rattle.multipartition.specs.Owners.{times};
 ghost use Rattle.multipartition.specs.Plans.{tilesOf};
 ghost use Rattle.multipartition.specs.Tiles.{positionOf};
-ghost use Rattle.multipartition.specs.Questions.{tileOwner, chainsAnswer};
+ghost use Rattle.multipartition.specs.Questions.{tileOwner, chainsAnswer, stageAnswer};
 ghost use Rattle.layout.specs.Plans.{layoutOf};
 ghost use Rattle.layout.specs.Shaped.{Factors, Shaped};
 ghost use Rattle.chains.specs.Told.{Answers};
@@ -144,7 +144,7 @@ fn row(
     }
 }
 
-// Visits those of the tiles that are above `stop`.
+// Visits those tiles of such a row, as `row` does all of them, that are above `stop`.
 fn row_above(
     plan: Plan,
     base: usize,
@@ -321,7 +321,7 @@ fn visit_above(plan: Plan, stop: u32, heads: &mut [u32], nexts: &mut [u32])
     );
 }
 
-// Clears the first list and visits the tiles above `stop`: the walk as far as any of its stages. The chain call goes on to stage 0.
+// Clears the first list and visits the tiles above `stop`.
 fn fill(plan: Plan, stop: u32, heads: &mut [u32], nexts: &mut [u32])
     requires { ⌜ (Shaped plan) × (stop ≤ tilesOf (layoutOf plan)) × (length (now heads) ≡ plan .p) × (length (now nexts) ≡ tilesOf (layoutOf plan)) ⌝ }
     ensures { λ r. ⌜ Visited plan stop (now (nexts .entry)) (now (heads .exit)) (now (nexts .exit)) ⌝ }
@@ -330,9 +330,10 @@ fn fill(plan: Plan, stop: u32, heads: &mut [u32], nexts: &mut [u32])
     visit_above(plan, stop, heads, nexts);
 }
 
-// The first list gets each processor's lowest tile, the second, for each tile, its owner's next higher one.
-pub fn chains(plan: Plan, heads: &mut [u32], nexts: &mut [u32]) -> Chained
-    ensures { λ r. ⌜ Answers (chainsAnswer (layoutOf plan) (length (now (heads .entry))) (length (now (nexts .entry)))) r (now (heads .entry), now (nexts .entry)) (now (heads .exit), now (nexts .exit)) ⌝ }
+// The chain call as far as stage `stop`, whichever it is.
+fn chains_to(plan: Plan, stop: u32, heads: &mut [u32], nexts: &mut [u32]) -> Chained
+    requires { ⌜ stop ≤ tilesOf (layoutOf plan) ⌝ }
+    ensures { λ r. ⌜ Answers (stageAnswer (layoutOf plan) stop (length (now (heads .entry))) (now (nexts .entry))) r (now (heads .entry), now (nexts .entry)) (now (heads .exit), now (nexts .exit)) ⌝ }
 {
     if !layout::in_shape(plan) {
         return Chained::Refused {
@@ -352,6 +353,13 @@ pub fn chains(plan: Plan, heads: &mut [u32], nexts: &mut [u32]) -> Chained
             place: 0,
         };
     }
-    fill(plan, 0, heads, nexts);
+    fill(plan, stop, heads, nexts);
     Chained::Done
+}
+
+// The first list gets each processor's lowest tile, the second, for each tile, its owner's next higher one.
+pub fn chains(plan: Plan, heads: &mut [u32], nexts: &mut [u32]) -> Chained
+    ensures { λ r. ⌜ Answers (chainsAnswer (layoutOf plan) (length (now (heads .entry))) (length (now (nexts .entry)))) r (now (heads .entry), now (nexts .entry)) (now (heads .exit), now (nexts .exit)) ⌝ }
+{
+    chains_to(plan, 0, heads, nexts)
 }

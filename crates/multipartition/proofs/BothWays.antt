@@ -8,7 +8,7 @@ use mathlib.Core.Option.{Option, some}
 use Prim.Native.Nat.{ℕ, suc, _+_, _-_, _/_, _%_, _≤_, _<_}
 use native.Mathlib.Omega.{arith}
 use borrow.Author.Tests.{ltb-true, lt-ltb, not-false}
-use lib.Dec.{ltb, eqb}
+use lib.Dec.{ltb}
 use lib.ListN.{getD}
 use Rattle.multipartition.specs.Answers.{answered, Check}
 use Rattle.multipartition.specs.Owners.{ownerAt}
@@ -17,7 +17,7 @@ use Rattle.multipartition.specs.Tiles.{Inside, isInside, tileNumber, pos
 use Rattle.multipartition.specs.Slabs.{slabStart, slabEnd, thickness, slabOf}
 use Rattle.multipartition.specs.Chains.{headsOf, nextsOf, Chain, Rising}
 use Rattle.multipartition.specs.Plans.{Layout, tilesOf, between, inShape}
-use Rattle.multipartition.specs.Questions.{shapeCheck, dimensionCheck, rangeCheck, lengthCheck, extentOf, cutOf, tileOwner, ownerAnswer, neighbourAnswer, numberAnswer, stepAnswer, positionAnswer, slabAnswer, slabOfAnswer, chainsAnswer}
+use Rattle.multipartition.specs.Questions.{shapeCheck, dimensionCheck, rangeCheck, chainChecks, extentOf, cutOf, tileOwner, ownerAnswer, neighbourAnswer, numberAnswer, stepAnswer, positionAnswer, slabAnswer, slabOfAnswer, chainsAnswer}
 use Rattle.multipartition.proofs.Tests.{between-true-iff}
 use Rattle.multipartition.proofs.Answers.{answers-iff}
 use Rattle.multipartition.proofs.Plans.{in-shape-iff}
@@ -197,8 +197,7 @@ module _ (plan : Layout) where
       → (inShape plan ≡ true) × (headsOf (tileOwner plan) (tilesOf plan) (plan .p) ≡ heads) × (nextsOf (tileOwner plan) (tilesOf plan) ≡ nexts)
   unfolding chainsAnswer
   chains-answered h n heads nexts e =
-      let checks : List Check = shapeCheck plan ∷ lengthCheck (eqb h (plan .p)) ∷ lengthCheck (eqb n (tilesOf plan)) ∷ [] in
-      let asked = answers-iff {A = List ℕ × List ℕ} checks (headsOf (tileOwner plan) (tilesOf plan) (plan .p), nextsOf (tileOwner plan) (tilesOf plan)) (heads, nexts) .0 e in
+      let asked = answers-iff {A = List ℕ × List ℕ} (chainChecks plan h n) (headsOf (tileOwner plan) (tilesOf plan) (plan .p), nextsOf (tileOwner plan) (tilesOf plan)) (heads, nexts) .0 e in
       (not-false (inShape plan) (asked .0 .0), ap (λ (b : List ℕ × List ℕ). b .0) (asked .1), ap (λ (b : List ℕ × List ℕ). b .1) (asked .1))
 
   -- from a processor's place in the first list the second leads through some numbers, rising, and ends; a number is one of them exactly if it is

@@ -11,6 +11,8 @@ use lib.Seq.{length-take-le, take-all, take-suc, take-append-le, take-take, appe
 use borrow.Author.Tests.{eqb-true, eqb-false}
 use Rattle.multipartition.specs.Lists.{listOf}
 use Rattle.multipartition.specs.Chains.{lowest, nextHigher, headsOf, nextsOf, headsAt, nextsAt, Stage}
+use Rattle.multipartition.specs.Plans.{Layout, tilesOf}
+use Rattle.multipartition.specs.Questions.{tileOwner, chainsAnswer, stageAnswer}
 use Rattle.multipartition.proofs.Chains.{length-listOf, getD-listOf}
 
 -- ---- the first list
@@ -119,9 +121,14 @@ module _ (own : ℕ → ℕ) (n p : ℕ) where
           }
 
   -- all tiles are visited: the lists are those of document 01
-  pub stage-end : (lent heads nexts : List ℕ) → Stage own n p 0 lent heads nexts → (heads ≡ headsOf own n p) × (nexts ≡ nextsOf own n)
+  pub stage-end : (lent : List ℕ) → (headsAt own n p 0 ≡ headsOf own n p) × (nextsAt own n lent 0 ≡ nextsOf own n)
   unfolding headsOf nextsOf headsAt nextsAt
-  stage-end lent heads nexts s = let all : n - 0 ≡ n = omega arith in (s .heads-are ∙ rw all, s .nexts-are ∙ rw all)
+  stage-end lent = let all : n - 0 ≡ n = omega arith in (rw all, rw all)
+
+-- the walk that stops at stage 0 is the chain call
+pub stage-answer-end : (plan : Layout) (heads : ℕ) (lent : List ℕ) → stageAnswer plan 0 heads lent ≡ chainsAnswer plan heads (length lent)
+unfolding stageAnswer chainsAnswer
+stage-answer-end plan heads lent = let end = stage-end (tileOwner plan) (tilesOf plan) (plan .p) lent in rw (end .0, end .1)
 
 -- ---- what was lent
 

@@ -5,14 +5,14 @@ use mathlib.Core.List.{List, [], _∷_}
 use mathlib.Core.Option.{Option}
 use Prim.Native.Nat.{ℕ, _-_}
 use lib.Dec.{ltb, eqb}
-use lib.ListN.{getD}
+use lib.ListN.{length, getD}
 use Rattle.multipartition.specs.Answers.{Answer, answered, Check, checked}
 use Rattle.multipartition.specs.Plans.{Layout, tilesOf, between, inShape}
 use Rattle.multipartition.specs.Owners.{ownerAt}
 use Rattle.multipartition.specs.Neighbours.{neighbourAt}
 use Rattle.multipartition.specs.Tiles.{isInside, tileNumber, positionOf, oneStepOn}
 use Rattle.multipartition.specs.Slabs.{slabStart, slabEnd, slabOf}
-use Rattle.multipartition.specs.Chains.{headsOf, nextsOf}
+use Rattle.multipartition.specs.Chains.{headsOf, nextsOf, headsAt, nextsAt}
 
 -- the extent and the cut of dimension k
 abbrev pub extentOf : Layout → ℕ → ℕ
@@ -87,8 +87,17 @@ slabOfAnswer plan k element =
 abbrev pub tileOwner : Layout → ℕ → ℕ
 tileOwner plan tile = ownerBy plan (positionOf (plan .cuts) tile)
 
--- the two chain lists, for lent lists of so many places: "Chains need 6 and 9 only."
+-- "Chains need 6 and 9 only.": for lent lists of so many places
+abbrev pub chainChecks : Layout → ℕ → ℕ → List Check
+chainChecks plan heads nexts = shapeCheck plan ∷ lengthCheck (eqb heads (plan .p)) ∷ lengthCheck (eqb nexts (tilesOf plan)) ∷ []
+
+-- the two chain lists
 unfoldable pub chainsAnswer : Layout → ℕ → ℕ → Answer (List ℕ × List ℕ)
 chainsAnswer plan heads nexts =
-    checked (shapeCheck plan ∷ lengthCheck (eqb heads (plan .p)) ∷ lengthCheck (eqb nexts (tilesOf plan)) ∷ [])
-    (answered (headsOf (tileOwner plan) (tilesOf plan) (plan .p), nextsOf (tileOwner plan) (tilesOf plan)))
+    checked (chainChecks plan heads nexts) (answered (headsOf (tileOwner plan) (tilesOf plan) (plan .p), nextsOf (tileOwner plan) (tilesOf plan)))
+
+-- the two lists where the walk stops at stage t, for a second list that held `lent` (document 02, request e)
+unfoldable pub stageAnswer : Layout → ℕ → ℕ → List ℕ → Answer (List ℕ × List ℕ)
+stageAnswer plan t heads lent =
+    checked (chainChecks plan heads (length lent))
+    (answered (headsAt (tileOwner plan) (tilesOf plan) (plan .p) t, nextsAt (tileOwner plan) (tilesOf plan) lent t))

@@ -5,7 +5,7 @@ use native.Mathlib.Omega.{arith}
 use borrow.Author.Needs.{needs}
 use Rattle.multipartition.proofs.Stages.{heads-length, nexts-length}
 use Rattle.chains.proofs.Blocks.{moduli-factors, entries}
-use Rattle.chains.proofs.Levels.{BlockStage, block-start, block-end, inner-ready, inner-visited, inner-small, block-step}
+use Rattle.chains.proofs.Levels.{BlockStage, block-start, block-end, inner-ready, inner-small, block-step}
 use Rattle.chains.proofs.+walk.{statement}
 use Rattle.chains.proofs.walk.Reads as walk
 use Rattle.chains.proofs.walk.Kinds as walk-kinds
@@ -101,9 +101,10 @@ module _ (t : ℕ) where
       let l = c .before .before .before .loop in
       let level : s .args .level < s .args .t1 .d = omega (arith, s .pre .1 .0 .2, s .pre .1 .0 .1 .high) in
       let low : 1 ≤ l .i = c .before .before .loop-test .taken in
+      let ready = inner-ready (s .args .t1) (s .pre .1 .0 .0) (s .args .stop) (s .args .level) level (s .args .block) (l .i) (l .at) (s .args .nexts .now) (l .heads) (l .nexts) (l .inv) low in
       let deeper : s .args .level + 1 < s .args .depth = omega (arith, s .pre .1 .0 .2, c .before .before .before .before .before .if1 .left) in (
         omega (arith, s .pre .0, deeper),
-        ((s .pre .1 .0 .0, s .pre .1 .0 .1, deeper, s .pre .1 .0 .3), (inner-ready (s .args .t1) (s .pre .1 .0 .0) (s .args .stop) (s .args .level) level (s .args .block) (l .i) (l .at) (s .args .nexts .now) (l .heads) (l .nexts) (l .inv) low .1, inner-visited (s .args .t1) (s .pre .1 .0 .0) (s .args .stop) (s .args .level) level (s .args .block) (l .i) (l .at) (s .args .nexts .now) (l .heads) (l .nexts) (l .inv) low)),
+        ((s .pre .1 .0 .0, s .pre .1 .0 .1, deeper, s .pre .1 .0 .3), (ready .1, ready .2)),
       )
 
   lowered-requires : walk-lts.Need-lowered-requires (calls t) (walk-at t) walk.Post Inv-loop μ-loop
