@@ -8,7 +8,8 @@ use Rattle.multipartition.specs.Questions.{tileOwner}
 use Rattle.layout.specs.declared.Plan.{Plan}
 use Rattle.layout.specs.Plans.{layoutOf}
 
--- the plan's tiles above t are visited, and the second list held `lent` before
+-- The plan's tiles above t are visited, and the second list held `lent` before. Of `lent` only the places of the tiles up to t count: with the second
+-- list itself for `lent` this says that the lists are at stage t, whatever the other places hold.
 abbrev pub Visited : Plan → ℕ → List ℕ → List ℕ → List ℕ → Type 0
 Visited plan t lent heads nexts = Stage (tileOwner (layoutOf plan)) (tilesOf (layoutOf plan)) (plan .p) t lent heads nexts
 

@@ -1,6 +1,6 @@
 -- What the questions about a plan answer (document 01, "Tiles, slabs, chains" and "Where each call turns back"). A question numbers dimensions
 -- from 1.
-use mathlib.Core.Bool.{Bool, not, _||_}
+use mathlib.Core.Bool.{Bool, not}
 use mathlib.Core.List.{List, [], _∷_}
 use mathlib.Core.Option.{Option}
 use Prim.Native.Nat.{ℕ, _-_}
