@@ -27,7 +27,7 @@ static void fail(const char *message)
     _exit(EXIT_FAILURE);
 }
 
-/* Whether the tiles from place `low` on are visited, up to those of the page, and none that is lower. */
+/* Fails unless the tiles of the page that begins at place `low` are visited and no lower tile is a head, but for JOINED tiles either way. */
 static void check_visited(size_t low)
 {
     size_t high = low + places < tiles ? low + places : tiles;

@@ -144,7 +144,7 @@ fn row(
     }
 }
 
-// Visits those tiles of such a row, as `row` does all of them, that are above `stop`.
+// Visits the tiles of such a row that are above `stop`.
 fn row_above(
     plan: Plan,
     base: usize,

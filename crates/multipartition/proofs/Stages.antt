@@ -125,7 +125,7 @@ module _ (own : ℕ → ℕ) (n p : ℕ) where
   unfolding headsOf nextsOf headsAt nextsAt
   stage-end lent = let all : n - 0 ≡ n = omega arith in (rw all, rw all)
 
--- the walk that stops at stage 0 is the chain call
+-- stopped at stage 0, the answer is that of the chain call
 pub stage-answer-end : (plan : Layout) (heads : ℕ) (lent : List ℕ) → stageAnswer plan 0 heads lent ≡ chainsAnswer plan heads (length lent)
 unfolding stageAnswer chainsAnswer
 stage-answer-end plan heads lent = let end = stage-end (tileOwner plan) (tilesOf plan) (plan .p) lent in rw (end .0, end .1)

@@ -96,7 +96,7 @@ unfoldable pub chainsAnswer : Layout → ℕ → ℕ → Answer (List ℕ × Lis
 chainsAnswer plan heads nexts =
     checked (chainChecks plan heads nexts) (answered (headsOf (tileOwner plan) (tilesOf plan) (plan .p), nextsOf (tileOwner plan) (tilesOf plan)))
 
--- the two lists where the walk stops at stage t, for a second list that held `lent` (document 02, request e)
+-- the two lists where the walk stops at stage t, for a first list of so many places and a second that held `lent` (document 02, request e)
 unfoldable pub stageAnswer : Layout → ℕ → ℕ → List ℕ → Answer (List ℕ × List ℕ)
 stageAnswer plan t heads lent =
     checked (chainChecks plan heads (length lent))
