@@ -14,7 +14,7 @@ use Rattle.multipartition.specs.Rivals.{RivalAmong, Rival, Balanced}
 use Rattle.multipartition.proofs.Cheapest.{cheapest-within, cheapest-even, cheapest-none}
 use Rattle.multipartition.proofs.Fitting.{fits-iff-within, fits-length}
 use Rattle.multipartition.proofs.Minimal.{Minimal, cheapest-minimal, cut-le, tiles-le}
-use Rattle.multipartition.proofs.Rivals.{balanced-iff-cheapest, cheapest-no-dearer}
+use Rattle.multipartition.proofs.Rivals.{balanced-iff-cheapest, cheapest-no-dearer, cheapest-no-more-tiles}
 
 module _ (job : Job) where
   pub chosen-is : cheapestFor job ≡ cheapestWithin (job .p) (job .extents) (job .weights)
@@ -78,6 +78,10 @@ module _ (job : Job) where
     pub chosen-no-dearer : zero < job .p → (rival : Rival job) → Balanced (job .p) (rival .cuts) (rival .owner)
         → costOf (job .weights) cuts ≤ costOf (job .weights) (rival .cuts)
     chosen-no-dearer l rival = cheapest-no-dearer (job .p) (job .extents) l (job .weights) cuts within (rival-within rival)
+
+    pub chosen-no-more-tiles : zero < job .p → (rival : Rival job) → Balanced (job .p) (rival .cuts) (rival .owner)
+        → costOf (job .weights) cuts ≡ costOf (job .weights) (rival .cuts) → product cuts ≤ product (rival .cuts)
+    chosen-no-more-tiles l rival = cheapest-no-more-tiles (job .p) (job .extents) l (job .weights) cuts within (rival-within rival)
 
     pub chosen-cut-le : zero < job .p → job .p ≤ 4096 → (k : ℕ) → k < length cuts → getD cuts k 0 ≤ 4096
     chosen-cut-le = cut-le (job .p) (job .extents) (job .weights) cuts within

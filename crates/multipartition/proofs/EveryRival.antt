@@ -21,7 +21,7 @@ use Rattle.multipartition.proofs.Moduli.{moduli-positive, moduli-produc
 use Rattle.multipartition.proofs.Owners.{owner-below, even-owners}
 use Rattle.multipartition.proofs.Neighbours.{neighbour-owns, neighbour-returns, neighbour-injective}
 use Rattle.multipartition.proofs.Minimal.{cut-dvd-processors, tiles-dvd-square}
-use Rattle.multipartition.proofs.Rivals.{balanced-iff-cheapest, cheapest-no-dearer}
+use Rattle.multipartition.proofs.Rivals.{balanced-iff-cheapest, cheapest-no-dearer, cheapest-no-more-tiles}
 use Rattle.multipartition.proofs.Faces.{cheapest-faces-differ}
 
 -- what holds of the cuts that the planner answers, and of their owners and neighbours
@@ -30,6 +30,9 @@ pub record Unbeaten (p : ℕ) (most weights cuts : List ℕ) : Type 0 where
   pub even : Even p cuts
   -- they cost no more than any rival that gives every processor equally many tiles in every slab
   pub no-dearer : (rival : RivalAmong p (Within most)) → Balanced p (rival .cuts) (rival .owner) → costOf weights cuts ≤ costOf weights (rival .cuts)
+  -- and no such rival of equal cost has fewer tiles
+  pub no-more-tiles : (rival : RivalAmong p (Within most)) → Balanced p (rival .cuts) (rival .owner) → costOf weights cuts ≡ costOf weights (rival .cuts)
+      → product cuts ≤ product (rival .cuts)
   -- every owner is a processor, and "every processor owns exactly tiles / (bk · p) tiles of each slab of dimension k"
   pub owner-is-processor : (position : List ℕ) → ownerOf p cuts position < p
   pub exact-share : (k s q : ℕ) → k < length cuts → s < getD cuts k 0 → q < p → held cuts (ownerOf p cuts) k s q ≡ product cuts / (getD cuts k 0 * p)
@@ -61,6 +64,7 @@ module _ (p : ℕ) (most weights : List ℕ) (hp : zero < p) where
     within = cheapest-within p most weights cuts e;
     even = even;
     no-dearer = cheapest-no-dearer p most hp weights cuts e;
+    no-more-tiles = cheapest-no-more-tiles p most hp weights cuts e;
     owner-is-processor = λ position. owner-below p cuts position hp;
     exact-share = even-owners p cuts hp even;
     faces = cheapest-faces-differ p most weights cuts hp e;

@@ -5,11 +5,12 @@ use mathlib.Core.Logic.{_⊎_, inl, inr, ⊎-elim, _↔_}
 use mathlib.Core.Bool.{Bool, true, false, _&&_, _||_}
 use mathlib.Core.List.{List, [], _∷_}
 use Prim.Native.Nat.{ℕ, _+_, _*_, _≤_, _<_}
-use native.Mathlib.Nat.{le-refl, le-of-lt, mul-le-mul, mul-le-mul-right, eq-or-lt-of-le}
+use native.Mathlib.Nat.{zero-mul, le-refl, le-of-lt, mul-le-mul, mul-le-mul-right, mul-lt-mul-of-pos-left, eq-or-lt-of-le}
 use native.Mathlib.Omega.{arith}
 use lib.Dec.{ltb, eqb}
 use borrow.Author.Tests.{ltb-true, ltb-false, eqb-true, lt-ltb, eq-eqb}
-use Rattle.multipartition.specs.Cuts.{cutCost, costOf, NotLater, notLater, Precedes, precedes}
+use Rattle.numbers.specs.Products.{product}
+use Rattle.multipartition.specs.Cuts.{cutCost, costOf, NotLater, notLater, NotMore, notMore, Precedes, precedes}
 use Rattle.multipartition.proofs.Tests.{and-true-iff, or-true-iff}
 
 -- ---- the cost of a dimension
@@ -18,6 +19,11 @@ use Rattle.multipartition.proofs.Tests.{and-true-iff, or-true-iff}
 pub cutCost-mono : (b c w : ℕ) → b ≤ c → cutCost b w ≤ cutCost c w
 unfolding cutCost
 cutCost-mono b c w h = mul-le-mul-right w (omega (arith, h))
+
+-- a dimension that is not cut costs nothing
+pub cutCost-one : (w : ℕ) → cutCost 1 w ≡ 0
+unfolding cutCost
+cutCost-one w = zero-mul w
 
 -- a dimension costs at most the product of a bound of its cut and a bound of its weight
 pub cutCost-le : (b w c v : ℕ) → b ≤ c → w ≤ v → cutCost b w ≤ c * v
@@ -78,33 +84,65 @@ notLater-total [] v = inl tt
 notLater-total (b ∷ u) [] = inr tt
 notLater-total (b ∷ u) (c ∷ v) = one-first b c (NotLater u v) (NotLater v u) (notLater-total u v)
 
+-- ---- fewer tiles, or as many and not later
+
+notMore-true : (u v : List ℕ) → (notMore u v ≡ true) ↔ NotMore u v
+unfolding notMore
+notMore-true u v = smaller-or-equal (product u) (product v) (notLater u v) (NotLater u v) (notLater-true u v)
+
+notMore-refl : (u : List ℕ) → NotMore u u
+notMore-refl u = inr (refl, notLater-refl u)
+
+notMore-antisymm : (u v : List ℕ) → NotMore u v → NotMore v u → u ≡ v
+notMore-antisymm u v (inl h) (inl k) = absurd (omega arith)
+notMore-antisymm u v (inl h) (inr k) = absurd (omega arith)
+notMore-antisymm u v (inr h) (inl k) = absurd (omega arith)
+notMore-antisymm u v (inr h) (inr k) = notLater-antisymm u v (h .1) (k .1)
+
+notMore-trans : (u v x : List ℕ) → NotMore u v → NotMore v x → NotMore u x
+notMore-trans u v x (inl h) (inl k) = inl (omega arith)
+notMore-trans u v x (inl h) (inr k) = inl (omega arith)
+notMore-trans u v x (inr h) (inl k) = inl (omega arith)
+notMore-trans u v x (inr h) (inr k) = inr (h .0 ∙ k .0, notLater-trans u v x (h .1) (k .1))
+
+notMore-total : (u v : List ℕ) → NotMore u v ⊎ NotMore v u
+notMore-total u v = one-first (product u) (product v) (NotLater u v) (NotLater v u) (notLater-total u v)
+
+notMore-le : (u v : List ℕ) → NotMore u v → product u ≤ product v
+notMore-le u v (inl h) = le-of-lt h
+notMore-le u v (inr h) = omega arith
+
+notMore-cons : (b : ℕ) (u v : List ℕ) → 0 < b → NotMore u v → NotMore (b ∷ u) (b ∷ v)
+notMore-cons b u v pos (inl h) = inl (mul-lt-mul-of-pos-left h pos)
+notMore-cons b u v pos (inr h) = inr (ap (λ (n : ℕ). b * n) (h .0), inr (refl, h .1))
+
 -- ---- the order among cuts
 
 pub precedes-true : (weights u v : List ℕ) → (precedes weights u v ≡ true) ↔ Precedes weights u v
 unfolding precedes Precedes
-precedes-true weights u v = smaller-or-equal (costOf weights u) (costOf weights v) (notLater u v) (NotLater u v) (notLater-true u v)
+precedes-true weights u v = smaller-or-equal (costOf weights u) (costOf weights v) (notMore u v) (NotMore u v) (notMore-true u v)
 
 pub precedes-refl : (weights u : List ℕ) → Precedes weights u u
 unfolding Precedes
-precedes-refl weights u = inr (refl, notLater-refl u)
+precedes-refl weights u = inr (refl, notMore-refl u)
 
 pub precedes-antisymm : (weights u v : List ℕ) → Precedes weights u v → Precedes weights v u → u ≡ v
 unfolding Precedes
 precedes-antisymm weights u v (inl h) (inl k) = absurd (omega arith)
 precedes-antisymm weights u v (inl h) (inr k) = absurd (omega arith)
 precedes-antisymm weights u v (inr h) (inl k) = absurd (omega arith)
-precedes-antisymm weights u v (inr h) (inr k) = notLater-antisymm u v (h .1) (k .1)
+precedes-antisymm weights u v (inr h) (inr k) = notMore-antisymm u v (h .1) (k .1)
 
 pub precedes-trans : (weights u v x : List ℕ) → Precedes weights u v → Precedes weights v x → Precedes weights u x
 unfolding Precedes
 precedes-trans weights u v x (inl h) (inl k) = inl (omega arith)
 precedes-trans weights u v x (inl h) (inr k) = inl (omega arith)
 precedes-trans weights u v x (inr h) (inl k) = inl (omega arith)
-precedes-trans weights u v x (inr h) (inr k) = inr (h .0 ∙ k .0, notLater-trans u v x (h .1) (k .1))
+precedes-trans weights u v x (inr h) (inr k) = inr (h .0 ∙ k .0, notMore-trans u v x (h .1) (k .1))
 
 pub precedes-total : (weights u v : List ℕ) → Precedes weights u v ⊎ Precedes weights v u
 unfolding Precedes
-precedes-total weights u v = one-first (costOf weights u) (costOf weights v) (NotLater u v) (NotLater v u) (notLater-total u v)
+precedes-total weights u v = one-first (costOf weights u) (costOf weights v) (NotMore u v) (NotMore v u) (notMore-total u v)
 
 -- what is chosen first is not dearer
 pub precedes-le : (weights u v : List ℕ) → Precedes weights u v → costOf weights u ≤ costOf weights v
@@ -117,22 +155,34 @@ pub precedes-of-lt : (weights u v : List ℕ) → costOf weights u < costOf weig
 unfolding Precedes
 precedes-of-lt weights u v h = inl h
 
--- the same cut in front of both
-pub precedes-cons : (w b : ℕ) (weights u v : List ℕ) → Precedes weights u v → Precedes (w ∷ weights) (b ∷ u) (b ∷ v)
+-- and among equal costs, what has fewer tiles
+pub precedes-of-fewer : (weights u v : List ℕ) → costOf weights u ≡ costOf weights v → product u < product v → Precedes weights u v
 unfolding Precedes
-precedes-cons w b weights u v (inl h) = inl (omega arith)
-precedes-cons w b weights u v (inr h) = inr (ap (λ (n : ℕ). cutCost b w + n) (h .0), inr (refl, h .1))
+precedes-of-fewer weights u v e h = inr (e, inl h)
 
--- a smaller first cut, at no more cost
-pub precedes-of-first : (weights u v : List ℕ) (b c : ℕ) → b < c → costOf weights (b ∷ u) ≤ costOf weights (c ∷ v) → Precedes weights (b ∷ u) (c ∷ v)
+-- what is chosen first has, among equal costs, no more tiles
+pub precedes-tiles-le : (weights u v : List ℕ) → Precedes weights u v → costOf weights u ≡ costOf weights v → product u ≤ product v
 unfolding Precedes
-precedes-of-first weights u v b c l h = ⊎-elim (λ e. inr (e, inl l)) inl (eq-or-lt-of-le h)
+precedes-tiles-le weights u v (inl h) e = absurd (omega arith)
+precedes-tiles-le weights u v (inr h) e = notMore-le u v (h .1)
+
+-- the same cut in front of both
+pub precedes-cons : (w b : ℕ) (weights u v : List ℕ) → 0 < b → Precedes weights u v → Precedes (w ∷ weights) (b ∷ u) (b ∷ v)
+unfolding Precedes
+precedes-cons w b weights u v pos (inl h) = inl (omega arith)
+precedes-cons w b weights u v pos (inr h) = inr (ap (λ (n : ℕ). cutCost b w + n) (h .0), notMore-cons b u v pos (h .1))
+
+-- a smaller first cut, at no more cost and with no more tiles
+pub precedes-of-first : (weights u v : List ℕ) (b c : ℕ) → b < c → costOf weights (b ∷ u) ≤ costOf weights (c ∷ v) → product (b ∷ u) ≤ product (c ∷ v)
+    → Precedes weights (b ∷ u) (c ∷ v)
+unfolding Precedes
+precedes-of-first weights u v b c l h k = ⊎-elim (λ e. inr (e, ⊎-elim (λ f. inr (f, inl l)) inl (eq-or-lt-of-le k))) inl (eq-or-lt-of-le h)
 
 -- ---- another cost
 
 -- the same order by another cost
 unfoldable pub PrecedesBy : (List ℕ → ℕ) → List ℕ → List ℕ → Type 0
-PrecedesBy cost u v = (cost u < cost v) ⊎ ((cost u ≡ cost v) × NotLater u v)
+PrecedesBy cost u v = (cost u < cost v) ⊎ ((cost u ≡ cost v) × NotMore u v)
 
 -- a cost that is larger by the same amount for both leaves them in their order
 pub precedes-iff-shifted : (cost : List ℕ → ℕ) (weights u v : List ℕ) (more : ℕ) → cost u ≡ costOf weights u + more → cost v ≡ costOf weights v + more
@@ -171,7 +221,16 @@ notLater-of-atMost [] v h = tt
 notLater-of-atMost (b ∷ u) [] h = absurd h
 notLater-of-atMost (b ∷ u) (c ∷ v) h = ⊎-elim (λ e. inr (e, notLater-of-atMost u v (h .1))) inl (eq-or-lt-of-le (h .0))
 
+product-atMost : (u v : List ℕ) → AtMost u v → product u ≤ product v
+product-atMost [] [] h = le-refl 1
+product-atMost [] (c ∷ v) h = absurd h
+product-atMost (b ∷ u) [] h = absurd h
+product-atMost (b ∷ u) (c ∷ v) h = mul-le-mul (h .0) (product-atMost u v (h .1))
+
+notMore-of-atMost : (u v : List ℕ) → AtMost u v → NotMore u v
+notMore-of-atMost u v h = ⊎-elim (λ e. inr (e, notLater-of-atMost u v h)) inl (eq-or-lt-of-le (product-atMost u v h))
+
 -- cuts of which none is larger are chosen first
 pub precedes-of-atMost : (weights u v : List ℕ) → AtMost u v → Precedes weights u v
 unfolding Precedes
-precedes-of-atMost weights u v h = ⊎-elim (λ e. inr (e, notLater-of-atMost u v h)) inl (eq-or-lt-of-le (costOf-atMost weights u v h))
+precedes-of-atMost weights u v h = ⊎-elim (λ e. inr (e, notMore-of-atMost u v h)) inl (eq-or-lt-of-le (costOf-atMost weights u v h))

@@ -13,7 +13,8 @@ use Rattle.multipartition.specs.Cuts.{Even, Within, costOf, cheapestWith
 use Rattle.multipartition.specs.Owners.{ownerOf}
 use Rattle.multipartition.specs.Tiles.{Inside}
 use Rattle.multipartition.specs.Rivals.{RivalAmong, held, Balanced}
-use Rattle.multipartition.proofs.Cheapest.{cheapest-within, cheapest-even, cheapest-le, cheapest-none}
+use Rattle.multipartition.proofs.Order.{precedes-tiles-le}
+use Rattle.multipartition.proofs.Cheapest.{cheapest-within, cheapest-even, cheapest-precedes, cheapest-le, cheapest-none}
 use Rattle.multipartition.proofs.Moduli.{othersDown, othersDown-reverse}
 use Rattle.multipartition.proofs.GridSums.{placeDown-reverse, inside-reverse, equal-shares, held-slabTotal}
 use Rattle.multipartition.proofs.Owners.{owner-below, owners-balanced}
@@ -82,3 +83,10 @@ module _ (p : ℕ) (most : List ℕ) (l : zero < p) where
       → (rival : RivalAmong p (Within most)) → Balanced p (rival .cuts) (rival .owner) → costOf weights cuts ≤ costOf weights (rival .cuts)
   cheapest-no-dearer weights cuts e rival balanced =
       cheapest-le p most weights cuts (rival .cuts) e (rival .member) (even-of-balanced rival balanced)
+
+  -- and no balanced rival of equal cost has fewer tiles
+  pub cheapest-no-more-tiles : (weights cuts : List ℕ) → cheapestWithin p most weights ≡ some cuts
+      → (rival : RivalAmong p (Within most)) → Balanced p (rival .cuts) (rival .owner) → costOf weights cuts ≡ costOf weights (rival .cuts)
+      → product cuts ≤ product (rival .cuts)
+  cheapest-no-more-tiles weights cuts e rival balanced =
+      precedes-tiles-le weights cuts (rival .cuts) (cheapest-precedes p most weights cuts (rival .cuts) e (rival .member) (even-of-balanced rival balanced))

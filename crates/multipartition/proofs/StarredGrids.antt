@@ -5,7 +5,7 @@ use mathlib.Core.List.{map}
 use Rattle.numbers.specs.Gcd.{gcd}
 use Rattle.numbers.specs.Sums.{same}
 use Rattle.multipartition.specs.Lists.{allBelow, listOf, startingWith, those}
-use Rattle.multipartition.specs.Cuts.{isEven, cutsWithin, cutCost, notLater, precedes, preferred, chosen, cheapestWithin}
+use Rattle.multipartition.specs.Cuts.{isEven, cutsWithin, cutCost, notLater, notMore, precedes, preferred, chosen, cheapestWithin}
 use Rattle.multipartition.specs.Moduli.{moduliOf}
 use Rattle.multipartition.specs.Matrix.{remainder, finish, finishedRows, rowsOf, remaindersOf, matrixOf}
 use Rattle.multipartition.specs.MixedRadix.{numberFrom, digitsOf}
@@ -18,5 +18,5 @@ use Rattle.multipartition.specs.StarredGrids.{Grid, figureOf, computed, 
 
 -- every figure of every starred grid
 pub starred-grids : map computed starred ≡ map (λ (grid : Grid). grid .answer) starred
-unfolding gcd same allBelow listOf startingWith those isEven cutsWithin cutCost notLater precedes preferred chosen cheapestWithin moduliOf remainder finish finishedRows rowsOf remaindersOf matrixOf numberFrom digitsOf times coordinatesAt ownerAt columnOf turn turned nextOwner neighbourAt positionOf lowest headsOf nextsOf headsAt nextsAt firstOutside planWith planAnswer figureOf
+unfolding gcd same allBelow listOf startingWith those isEven cutsWithin cutCost notLater notMore precedes preferred chosen cheapestWithin moduliOf remainder finish finishedRows rowsOf remaindersOf matrixOf numberFrom digitsOf times coordinatesAt ownerAt columnOf turn turned nextOwner neighbourAt positionOf lowest headsOf nextsOf headsAt nextsAt firstOutside planWith planAnswer figureOf
 starred-grids = refl

@@ -1,4 +1,4 @@
--- Choosing the cuts (document 01, "Choosing the cuts"; document 02, request a, for the cost).
+-- Choosing the cuts (document 01, "Choosing the cuts"; document 02, request a, for the cost, and request f, for what decides among equal costs).
 use mathlib.Core.Path.{_≡_}
 use mathlib.Core.Logic.{_⊎_}
 use mathlib.Core.Bool.{Bool, true, false, cond, _&&_, _||_}
@@ -56,14 +56,22 @@ notLater [] v = true
 notLater (b ∷ u) [] = false
 notLater (b ∷ u) (c ∷ v) = ltb b c || (eqb b c && notLater u v)
 
--- The order among cuts: u is chosen rather than v if it has the "least cost; among equals, those with the smaller cut at the first dimension
--- where they differ".
+-- Document 02, request f: "Ties in cost now go to the smaller number of tiles, and after that to the smaller cut at the first dimension that
+-- differs." u has fewer tiles than v, or as many and is not later.
+abbrev pub NotMore : List ℕ → List ℕ → Type 0
+NotMore u v = (product u < product v) ⊎ ((product u ≡ product v) × NotLater u v)
+
+-- the same as a test
+unfoldable pub notMore : List ℕ → List ℕ → Bool
+notMore u v = ltb (product u) (product v) || (eqb (product u) (product v) && notLater u v)
+
+-- The order among cuts: u is chosen rather than v if it has the "least cost", and among equals by request f.
 unfoldable pub Precedes : List ℕ → List ℕ → List ℕ → Type 0
-Precedes weights u v = (costOf weights u < costOf weights v) ⊎ ((costOf weights u ≡ costOf weights v) × NotLater u v)
+Precedes weights u v = (costOf weights u < costOf weights v) ⊎ ((costOf weights u ≡ costOf weights v) × NotMore u v)
 
 -- the same as a test
 unfoldable pub precedes : List ℕ → List ℕ → List ℕ → Bool
-precedes weights u v = ltb (costOf weights u) (costOf weights v) || (eqb (costOf weights u) (costOf weights v) && notLater u v)
+precedes weights u v = ltb (costOf weights u) (costOf weights v) || (eqb (costOf weights u) (costOf weights v) && notMore u v)
 
 -- of cuts and what was chosen among others, the one that is chosen
 unfoldable pub preferred : List ℕ → List ℕ → Option (List ℕ) → Option (List ℕ)

@@ -1,5 +1,6 @@
 -- The starred grids of document 01, "Grids to try", with the figures that its table names. Document 02, request a: "Every cost in document 01 drops by
--- the sum of its weights". Of request e, five stages of the chains of 4 on 8 8 8.
+-- the sum of its weights". Of request e, five stages of the chains of 4 on 8 8 8. Of request f, "4 processors in three roomy dimensions" with "all
+-- weights zero": "That job becomes 2 2 2."
 use mathlib.Core.Bool.{true}
 use mathlib.Core.List.{List, [], _∷_, map}
 use mathlib.Core.Option.{Option, some}
@@ -58,7 +59,7 @@ pub record Grid : Type 0 where
 abbrev pub computed : Grid → List Figure
 computed grid = map (figureOf (planAnswer (jobWith (grid .p) (length (grid .extents)) (grid .extents) (grid .weights)))) (grid .answer)
 
--- the starred lines
+-- the starred lines, and that of request f
 abbrev pub starred : List Grid
 starred =
     record { p = 1; extents = 1 ∷ 1 ∷ []; weights = 5 ∷ 7 ∷ []; answer = cuts (1 ∷ 1 ∷ []) ∷ cost 0 ∷ [] }
@@ -87,6 +88,7 @@ starred =
           ∷ stage 0 (replicate 8 7) (1 ∷ 2 ∷ 4 ∷ 3 ∷ []) (8 ∷ 7 ∷ 6 ∷ 5 ∷ 0 ∷ 0 ∷ 0 ∷ 0 ∷ [])
           ∷ [];
     }
+    ∷ record { p = 4; extents = 4 ∷ 4 ∷ 4 ∷ []; weights = 0 ∷ 0 ∷ 0 ∷ []; answer = cuts (2 ∷ 2 ∷ 2 ∷ []) ∷ cost 0 ∷ [] }
     ∷ record { p = 4; extents = 1 ∷ 3 ∷ 9 ∷ []; weights = 1 ∷ 1 ∷ 1 ∷ []; answer = turned-down 5 0 ∷ [] }
     ∷ record {
       p = 5;

@@ -8,7 +8,7 @@ use Rattle.numerals.specs.Decimal.{decimal, decimalWithin}
 use Rattle.numbers.specs.Gcd.{gcd}
 use Rattle.numbers.specs.Sums.{same}
 use Rattle.multipartition.specs.Lists.{allBelow, listOf, startingWith, those}
-use Rattle.multipartition.specs.Cuts.{isEven, cutsWithin, cutCost, notLater, precedes, preferred, chosen, cheapestWithin}
+use Rattle.multipartition.specs.Cuts.{isEven, cutsWithin, cutCost, notLater, notMore, precedes, preferred, chosen, cheapestWithin}
 use Rattle.multipartition.specs.Moduli.{moduliOf}
 use Rattle.multipartition.specs.Matrix.{remainder, finish, finishedRows, rowsOf, remaindersOf, matrixOf}
 use Rattle.multipartition.specs.MixedRadix.{numberFrom, digitsOf}
@@ -32,5 +32,5 @@ exampleText =
     ++ bytesOf "up 3 1 0 3 2\n"
 
 pub example-printed : answerText (planAnswer (jobWith 4 3 (8 ∷ 8 ∷ 8 ∷ []) (1 ∷ 1 ∷ 1 ∷ []))) ≡ exampleText
-unfolding decimal decimalWithin gcd same allBelow listOf startingWith those isEven cutsWithin cutCost notLater precedes preferred chosen cheapestWithin moduliOf remainder finish finishedRows rowsOf remaindersOf matrixOf numberFrom digitsOf columnOf turn turned nextOwner neighbourAt firstOutside planWith planAnswer joined processors upLine planText answerText
+unfolding decimal decimalWithin gcd same allBelow listOf startingWith those isEven cutsWithin cutCost notLater notMore precedes preferred chosen cheapestWithin moduliOf remainder finish finishedRows rowsOf remaindersOf matrixOf numberFrom digitsOf columnOf turn turned nextOwner neighbourAt firstOutside planWith planAnswer joined processors upLine planText answerText
 example-printed = refl

@@ -15,7 +15,7 @@ use Rattle.multipartition.specs.Plans.{Job, Layout, jobOf, layoutWith, inShape}
 use Rattle.multipartition.specs.Questions.{ownerBy}
 use Rattle.multipartition.specs.Rivals.{held}
 use Rattle.multipartition.specs.Tiles.{Inside}
-use Rattle.multipartition.proofs.Chosen.{balanced-iff-chosen, chosen-fits, chosen-length, chosen-even, chosen-minimal, chosen-no-dearer}
+use Rattle.multipartition.proofs.Chosen.{balanced-iff-chosen, chosen-fits, chosen-length, chosen-even, chosen-minimal, chosen-no-dearer, chosen-no-more-tiles}
 use Rattle.multipartition.proofs.Faces.{faces-differ}
 use Rattle.multipartition.proofs.Jobs.{plan-answered, plan-in-shape, plan-of-passed}
 use Rattle.multipartition.proofs.Owners.{even-owners}
@@ -65,6 +65,8 @@ module _ (job : Job) (plan : Plan) (e : planAnswer job ≡ answered (layoutOf pl
         cost-is;
     cheapest-of-all = λ rival balanced.
         subst⁻¹ (λ (n : ℕ). n ≤ costOf (job .weights) (rival .cuts)) cost-is (chosen-no-dearer job (cutsOf plan) (made .cuts-are) some-processor rival balanced);
+    fewest-of-equals = λ rival balanced equal.
+        chosen-no-more-tiles job (cutsOf plan) (made .cuts-are) some-processor rival balanced (sym cost-is ∙ equal);
     faces-differ = λ x y w v face same-owner.
         faces-differ (job .p) (cutsOf plan) some-processor (chosen-minimal job (cutsOf plan) (made .cuts-are)) x y w v face
         (sym (owner-of x w) ∙ same-owner ∙ owner-of y v);

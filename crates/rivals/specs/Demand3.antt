@@ -68,6 +68,10 @@ pub record Ours (job : Job) (plan : Plan) : Type 0 where
   pub even : EvenPlan job plan
   -- no balanced rival costs less; document 02, request a: "The rival's cost is counted in the same way from here on."
   pub cheapest-of-all : (rival : Rival job) → Balanced (job .p) (rival .cuts) (rival .owner) → plan .cost ≤ costOf (job .weights) (rival .cuts)
+  -- document 02, request f: "A rival of equal cost that gives every processor equally many tiles in every slab may no longer have fewer tiles than
+  -- ours."
+  pub fewest-of-equals : (rival : Rival job) → Balanced (job .p) (rival .cuts) (rival .owner) → plan .cost ≡ costOf (job .weights) (rival .cuts)
+      → product (cutsOf plan) ≤ product (rival .cuts)
   -- tiles with a common face have different owners
   pub faces-differ : (x y : List ℕ) → Inside (cutsOf plan) x → Inside (cutsOf plan) y → Face x y → ownerIn plan x ≢ ownerIn plan y
 
