@@ -29,9 +29,13 @@ pub fn fixed() -> Vec<Vec<u8>> {
         "4 2 0 0 1 1",
         "4 2 1000000 1000000 1 1",
         "4 3 9 9 9 0 0 0",
+        "4 3 9 9 9 0 0 1",
+        "12 3 12 12 12 0 0 0",
+        "8 4 9 9 9 9 0 1 0 1",
         "30 3 99 99 99 1 1 1",
         "4096 5 1000000 1000000 1000000 1000000 1000000 4294967295 4294967295 4294967295 4294967295 4294967295",
         "4096 5 1000000 1000000 1000000 1000000 1000000 0 0 0 0 0",
+        "3360 5 1000000 1000000 1000000 1000000 1000000 0 0 0 0 0",
         "4096 3 1000000 1000000 1000000 1 1 1",
         "4095 4 4095 4095 4095 4095 1 1 1 4294967295",
         "4093 2 4093 4093 4294967295 4294967295",
@@ -90,7 +94,8 @@ pub fn texts(bytes: &[u8], up_to: usize) -> Vec<Vec<u8>> {
 /// A job line: mostly jobs with an answer or refusal 5, some with refusals 1 to 4.
 pub fn job(random: &mut Random) -> Vec<u8> {
     let mut numbers = match random.between(0, 9) {
-        0..=5 => small_job(random),
+        0..=4 => small_job(random),
+        5 => tied_job(random),
         6..=7 => wide_job(random),
         _ => tight_job(random),
     };
@@ -134,12 +139,26 @@ fn small_job(random: &mut Random) -> Vec<u64> {
     let d = random.between(2, 5) as usize;
     let p = match random.between(0, 3) {
         0 => random.between(1, 12),
-        1 => *random.pick(&[4, 6, 8, 9, 12, 16, 18, 24, 27, 30, 32, 36, 48, 60, 64]),
+        1 => *random.pick(&COMPOSITE),
         _ => random.between(1, 64),
     };
     let side = [150, 28, 12, 7][d - 2];
     let extents = (0..d).map(|_| random.between(1, side)).collect();
     let weights = weights(random, d);
+    numbers(p, extents, weights)
+}
+
+const COMPOSITE: [u64; 15] = [4, 6, 8, 9, 12, 16, 18, 24, 27, 30, 32, 36, 48, 60, 64];
+
+/// A job with weights 0 and 1, often all 0: many cuts cost the same, and fewer tiles decide
+/// (document 02, f). All its cuts can be tried.
+fn tied_job(random: &mut Random) -> Vec<u64> {
+    let d = random.between(3, 5) as usize;
+    let p = *random.pick(&COMPOSITE);
+    let side = [28, 12, 7][d - 3];
+    let extents = (0..d).map(|_| random.between(side / 2, side)).collect();
+    let most = u64::from(!random.once_in(3));
+    let weights = (0..d).map(|_| random.between(0, most)).collect();
     numbers(p, extents, weights)
 }
 
@@ -280,6 +299,7 @@ fn damage(random: &mut Random, text: &mut Vec<u8>) {
 #[cfg(test)]
 mod tests {
     use super::*;
+    use crate::cuts::{all_fitting, by_trying_all, cost, even, tiles};
     use crate::diagonal::diagonal_job;
     use crate::print::answer;
     use crate::text::read;
@@ -311,6 +331,35 @@ mod tests {
             );
         }
         assert!(!counts.contains_key("10"));
+    }
+
+    /// Many of these jobs would be planned otherwise if the smaller first cut decided among equal
+    /// costs, or if more tiles did.
+    #[test]
+    fn tiles_decide_tied_jobs() {
+        let mut random = Random::new(11);
+        let (mut not_first, mut not_most, mut planned) = (0, 0, 0);
+        for _ in 0..300 {
+            let job: Vec<u32> = tied_job(&mut random).iter().map(|&n| n as u32).collect();
+            let (p, d) = (job[0], job[1] as usize);
+            let (extents, weights) = job[2..].split_at(d);
+            let all = all_fitting(extents).filter(|cuts| even(p, cuts));
+            let all: Vec<_> = all.map(|cuts| (cost(&cuts, weights), cuts)).collect();
+            let Some((least, first)) = all.iter().min() else {
+                continue;
+            };
+            let cheapest = all.iter().filter(|(cost, _)| cost == least);
+            let most = cheapest.map(|(_, cuts)| tiles(cuts)).max().unwrap();
+            let chosen = by_trying_all(p, extents, weights).expect("cuts");
+            planned += 1;
+            not_first += usize::from(chosen != *first);
+            not_most += usize::from(tiles(&chosen) != most);
+        }
+        let counts = format!("{not_first}, {not_most} of {planned}");
+        assert!(
+            not_first >= 50 && not_most >= 100 && planned >= 150,
+            "{counts}"
+        );
     }
 
     #[test]

@@ -26,11 +26,16 @@ pub fn cost(cuts: &[u32], weights: &[u32]) -> u64 {
     parts.map(|(&b, &w)| u64::from(b - 1) * u64::from(w)).sum()
 }
 
-/// The cheapest cuts seen so far; "among equals, those with the smaller cut at the first dimension
-/// where they differ".
+/// The number of tiles.
+pub fn tiles(cuts: &[u32]) -> u128 {
+    cuts.iter().map(|&b| u128::from(b)).product()
+}
+
+/// The cheapest cuts seen so far; "Ties in cost now go to the smaller number of tiles, and after
+/// that to the smaller cut at the first dimension that differs" (document 02, f).
 struct Cheapest<'a> {
     weights: &'a [u32],
-    found: Option<(u64, Vec<u32>)>,
+    found: Option<(u64, u128, Vec<u32>)>,
 }
 
 impl<'a> Cheapest<'a> {
@@ -42,18 +47,18 @@ impl<'a> Cheapest<'a> {
     }
 
     fn consider(&mut self, cuts: &[u32]) {
-        let cost = cost(cuts, self.weights);
+        let (cost, tiles) = (cost(cuts, self.weights), tiles(cuts));
         let better = match &self.found {
             None => true,
-            Some((least, best)) => (cost, cuts) < (*least, &best[..]),
+            Some((least, fewest, best)) => (cost, tiles, cuts) < (*least, *fewest, &best[..]),
         };
         if better {
-            self.found = Some((cost, cuts.to_vec()));
+            self.found = Some((cost, tiles, cuts.to_vec()));
         }
     }
 
     fn cuts(self) -> Option<Vec<u32>> {
-        self.found.map(|(_, cuts)| cuts)
+        self.found.map(|(_, _, cuts)| cuts)
     }
 }
 
@@ -124,7 +129,7 @@ fn choose_divisors(
 /// partitionings, which are those of its Lemma 2.
 ///
 /// Taking one factor out of cuts that Lemma 2 rules out leaves even cuts, none larger and one
-/// smaller; so the cheapest cuts, and among equals the first ones, are elementary.
+/// smaller, so that they cost no more and have fewer tiles; so the cuts chosen are elementary.
 pub fn elementary(p: u32, extents: &[u32], weights: &[u32]) -> Option<Vec<u32>> {
     let d = extents.len();
     let choices: Vec<Vec<Vec<u32>>> = prime_factors(p)
@@ -199,6 +204,19 @@ pub fn cheapest(p: u32, extents: &[u32], weights: &[u32]) -> Option<Vec<u32>> {
     }
 }
 
+/// All fitting cuts, the first dimension running fastest.
+#[cfg(test)]
+pub fn all_fitting(extents: &[u32]) -> impl Iterator<Item = Vec<u32>> + '_ {
+    (0..fitting(extents)).map(|mut left| {
+        let cut = |&n: &u32| {
+            let b = 1 + (left % u128::from(n)) as u32;
+            left /= u128::from(n);
+            b
+        };
+        extents.iter().map(cut).collect()
+    })
+}
+
 #[cfg(test)]
 mod tests {
     use super::*;
@@ -227,15 +245,42 @@ mod tests {
         assert_eq!(by_trying_all(2, &[1, 9], &[1, 1]), None);
     }
 
+    /// "That job becomes 2 2 2", and others that a tie in cost decides.
     #[test]
-    fn ties_go_to_the_first_smaller_cut() {
-        assert_eq!(
-            by_trying_all(4, &[9, 9, 9], &[0, 0, 0]),
-            Some(vec![1, 4, 4])
-        );
+    fn ties_go_to_fewer_tiles() {
+        for (p, extents, weights, cuts) in [
+            (4, vec![9; 3], vec![0; 3], vec![2, 2, 2]),
+            (4, vec![9; 3], vec![0, 0, 1], vec![4, 4, 1]),
+            (12, vec![20; 3], vec![0; 3], vec![2, 6, 6]),
+            (36, vec![40; 3], vec![0; 3], vec![6, 6, 6]),
+            (8, vec![9; 4], vec![0; 4], vec![2, 2, 2, 2]),
+            (8, vec![9; 4], vec![0, 1, 0, 1], vec![8, 1, 8, 1]),
+        ] {
+            assert_eq!(by_trying_all(p, &extents, &weights), Some(cuts));
+        }
+        for (p, d, cuts) in [
+            (16, 5, vec![2, 2, 2, 2, 2]),
+            (4096, 5, vec![8, 8, 8, 8, 8]),
+            (3360, 5, vec![1, 2, 4, 420, 420]),
+        ] {
+            let (extents, weights) = (vec![1_000_000; d], vec![0; d]);
+            assert_eq!(elementary(p, &extents, &weights), Some(cuts));
+        }
+    }
+
+    #[test]
+    fn ties_in_tiles_go_to_the_first_smaller_cut() {
         assert_eq!(
             by_trying_all(6, &[9, 9, 9], &[1, 1, 1]),
             Some(vec![2, 3, 6])
+        );
+        assert_eq!(
+            by_trying_all(6, &[9, 9, 9], &[0, 0, 0]),
+            Some(vec![1, 6, 6])
+        );
+        assert_eq!(
+            by_trying_all(30, &[30, 30, 30], &[0, 0, 0]),
+            Some(vec![1, 30, 30])
         );
     }
 
@@ -290,18 +335,6 @@ mod tests {
         parts.map(|(&b, &w)| u64::from(b) * u64::from(w)).sum()
     }
 
-    /// All fitting cuts, the first dimension running fastest.
-    fn all_fitting(extents: &[u32]) -> impl Iterator<Item = Vec<u32>> + '_ {
-        (0..fitting(extents)).map(|mut left| {
-            let cut = |&n: &u32| {
-                let b = 1 + (left % u128::from(n)) as u32;
-                left /= u128::from(n);
-                b
-            };
-            extents.iter().map(cut).collect()
-        })
-    }
-
     /// "The chosen cuts don't move, since the sum drops by the same amount for all of them."
     #[test]
     fn the_former_cost_chose_the_same_cuts() {
@@ -309,12 +342,12 @@ mod tests {
         for _ in 0..2000 {
             let (p, extents, weights) = small_job(&mut random);
             let all = all_fitting(&extents).filter(|cuts| even(p, cuts));
-            let former = all.map(|cuts| (former_cost(&cuts, &weights), cuts)).min();
+            let former = all.map(|cuts| (former_cost(&cuts, &weights), tiles(&cuts), cuts));
             let chosen = by_trying_all(p, &extents, &weights);
             let dropped: u64 = weights.iter().map(|&w| u64::from(w)).sum();
             assert_eq!(
-                chosen.map(|cuts| (cost(&cuts, &weights) + dropped, cuts)),
-                former,
+                chosen.map(|cuts| (cost(&cuts, &weights) + dropped, tiles(&cuts), cuts)),
+                former.min(),
                 "{p} on {extents:?} by {weights:?}"
             );
         }
