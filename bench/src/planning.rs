@@ -3,7 +3,8 @@
 //! [`figure_2`] is the paper's own enumeration of elementary partitionings (source document 001,
 //! section 5.2), each factor's distributions listed once and then combined in all ways;
 //! [`figure_2_nested`] is the same with the paper's program run anew for every combination.
-//! [`remembered`] chooses the cuts dimension after dimension and remembers its answers.
+//! [`remembered`] chooses the cuts dimension after dimension and remembers its answers. All choose by
+//! cost, then by the number of tiles, then by the smaller cut at the first dimension that differs.
 
 use crate::plan_list::{
     COST_HIGH, COST_LOW, CUTS, DIMENSIONS, EXTENTS, MATRIX, MODULI, PLAN_LENGTH, PROCESSORS,
@@ -32,6 +33,12 @@ impl Job {
 }
 
 type Cuts = [u32; 5];
+
+/// The number of tiles.
+#[inline]
+fn tiles(cuts: &[u32]) -> u64 {
+    cuts.iter().map(|&b| u64::from(b)).product()
+}
 
 /// Plans by the paper's enumeration.
 pub fn figure_2(p: u32, d: u32, extents: &[u32], weights: &[u32]) -> Planned {

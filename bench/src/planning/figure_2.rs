@@ -1,6 +1,6 @@
 //! The paper's enumeration: each factor's distributions listed once, then combined in all ways.
 
-use super::{Cuts, Job, LEAST};
+use super::{tiles, Cuts, Job, LEAST};
 
 /// The distributions of each factor, as powers of it, one after the other in one list.
 struct Distributions {
@@ -16,6 +16,7 @@ struct Enumeration<'a> {
     leave_early: bool,
     /// The least sum of b * w so far.
     cost: u64,
+    tiles: u64,
     cuts: Cuts,
 }
 
@@ -60,6 +61,7 @@ pub fn cheapest(job: &Job, leave_early: bool) -> Option<(u64, Cuts)> {
         distributions: &distributions,
         leave_early,
         cost: u64::MAX,
+        tiles: u64::MAX,
         cuts: [u32::MAX; 5],
     };
     if distributions.factors == 0 {
@@ -136,9 +138,13 @@ impl Enumeration<'_> {
         for (&b, &w) in cuts.iter().zip(&self.job.weights) {
             cost += u64::from(b) * u64::from(w);
         }
-        if self.fits(&cuts) && (cost < self.cost || cost == self.cost && cuts < self.cuts) {
-            self.cost = cost;
-            self.cuts = cuts;
+        if self.fits(&cuts) && cost <= self.cost {
+            let tiles = tiles(&cuts[..self.job.d]);
+            if cost < self.cost || (tiles, cuts) < (self.tiles, self.cuts) {
+                self.cost = cost;
+                self.tiles = tiles;
+                self.cuts = cuts;
+            }
         }
     }
 }

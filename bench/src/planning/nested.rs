@@ -1,7 +1,7 @@
 //! The paper's enumeration as its program stands: for every combination of the factors so far, the
 //! next factor's distributions are made anew.
 
-use super::{Cuts, Job, LEAST};
+use super::{tiles, Cuts, Job, LEAST};
 
 /// The cheapest elementary partitioning that fits.
 pub fn cheapest(job: &Job) -> Option<(u64, Cuts)> {
@@ -15,6 +15,7 @@ struct Nested<'a> {
     factors: usize,
     /// The least sum of b * w so far.
     cost: u64,
+    tiles: u64,
     cuts: Cuts,
 }
 
@@ -26,6 +27,7 @@ impl Nested<'_> {
             times: [0; 5],
             factors: 0,
             cost: u64::MAX,
+            tiles: u64::MAX,
             cuts: [u32::MAX; 5],
         };
         let mut left = job.p;
@@ -90,9 +92,13 @@ impl Nested<'_> {
             }
             cost += u64::from(b) * u64::from(w);
         }
-        if cost < self.cost || cost == self.cost && cuts < self.cuts {
-            self.cost = cost;
-            self.cuts = cuts;
+        if cost <= self.cost {
+            let tiles = tiles(&cuts[..self.job.d]);
+            if cost < self.cost || (tiles, cuts) < (self.tiles, self.cuts) {
+                self.cost = cost;
+                self.tiles = tiles;
+                self.cuts = cuts;
+            }
         }
     }
 }

@@ -31,6 +31,12 @@ fn divisors(p: u32) -> ([u32; MOST_DIVISORS], usize) {
     (list, count)
 }
 
+/// What is chosen: its cost, its number of tiles and its first cut. Where there are no cuts, the
+/// cost is `NONE`.
+type Choice = (u64, u64, u32);
+
+const NO_CHOICE: Choice = (NONE, 0, 0);
+
 struct Search<'a> {
     job: &'a Job,
     divisors: &'a [u32],
@@ -38,8 +44,8 @@ struct Search<'a> {
     last_weights: u64,
     /// The place of each divisor among them; empty where nothing is remembered.
     place: &'a [u8],
-    /// Cost times 8192 plus cut, or `NONE`; 0 where not known yet.
-    table: &'a mut [u64],
+    /// Cost times 8192 plus cut, or `NONE`, and the number of tiles; 0 where not known yet.
+    table: &'a mut [(u64, u64)],
 }
 
 /// The cheapest even, fitting cuts.
@@ -64,9 +70,9 @@ pub fn cheapest(job: &Job) -> Option<(u64, Cuts)> {
     search.place = &place;
     // Most counts have few divisors; a large table takes longer to clear than to use.
     match count {
-        0..=12 => search.cuts_with(&mut [0; 2 * 12 * 12]),
-        13..=24 => search.cuts_with(&mut [0; 2 * 24 * 24]),
-        _ => search.cuts_with(&mut [0; 2 * MOST_DIVISORS * MOST_DIVISORS]),
+        0..=12 => search.cuts_with(&mut [(0, 0); 2 * 12 * 12]),
+        13..=24 => search.cuts_with(&mut [(0, 0); 2 * 24 * 24]),
+        _ => search.cuts_with(&mut [(0, 0); 2 * MOST_DIVISORS * MOST_DIVISORS]),
     }
 }
 
@@ -83,31 +89,31 @@ fn after_cut(a: u32, e: u32, b: u32) -> (u32, u32) {
 
 impl Search<'_> {
     #[inline(never)]
-    fn cuts_with(&mut self, table: &mut [u64]) -> Option<(u64, Cuts)> {
+    fn cuts_with(&mut self, table: &mut [(u64, u64)]) -> Option<(u64, Cuts)> {
         let mut search = Search { table, ..*self };
         search.cuts()
     }
 
     fn cuts(&mut self) -> Option<(u64, Cuts)> {
         let (mut a, mut e) = (self.job.p, self.job.p);
-        let mut cost = 0;
+        let mut least = 0;
         let mut cuts = [0; 5];
         for (k, cut) in cuts.iter_mut().enumerate().take(self.job.d) {
-            let answer = self.least(k, a, e);
-            if answer == NONE {
+            let (cost, _, first) = self.least(k, a, e);
+            if cost == NONE {
                 return None;
             }
             if k == 0 {
-                cost = answer / 8192;
+                least = cost;
             }
-            *cut = (answer % 8192) as u32;
-            (a, e) = after_cut(a, e, *cut);
+            *cut = first;
+            (a, e) = after_cut(a, e, first);
         }
-        Some((cost, cuts))
+        Some((least, cuts))
     }
 
-    /// The least cost of the cuts from dimension k on in a state, with the cut of dimension k.
-    fn least(&mut self, k: usize, a: u32, e: u32) -> u64 {
+    /// What is chosen for the dimensions from k on in a state.
+    fn least(&mut self, k: usize, a: u32, e: u32) -> Choice {
         let left = self.job.d - k;
         if left == 1 {
             return self.last(k, a, e);
@@ -118,65 +124,74 @@ impl Search<'_> {
         } else {
             usize::MAX
         };
-        if slot < self.table.len() && self.table[slot] != 0 {
-            return self.table[slot];
+        if slot < self.table.len() && self.table[slot].0 != 0 {
+            let (known, tiles) = self.table[slot];
+            if known == NONE {
+                return NO_CHOICE;
+            }
+            return (known / 8192, tiles, (known % 8192) as u32);
         }
-        let (cost, cut) = if left == 2 {
+        let (cost, tiles, cut) = if left == 2 {
             self.last_two(k, a, e)
         } else {
             self.more(k, a, e)
         };
-        let answer = if cost == NONE {
-            NONE
-        } else {
-            cost * 8192 + u64::from(cut)
-        };
         if slot < self.table.len() {
-            self.table[slot] = answer;
+            let answer = if cost == NONE {
+                NONE
+            } else {
+                cost * 8192 + u64::from(cut)
+            };
+            self.table[slot] = (answer, tiles);
         }
-        answer
+        (cost, tiles, cut)
     }
 
-    fn last(&self, k: usize, a: u32, e: u32) -> u64 {
+    fn last(&self, k: usize, a: u32, e: u32) -> Choice {
         if e == 1 && a <= self.job.extents[k] {
-            u64::from(a - 1) * u64::from(self.job.weights[k]) * 8192 + u64::from(a)
+            let cost = u64::from(a - 1) * u64::from(self.job.weights[k]);
+            (cost, u64::from(a), a)
         } else {
-            NONE
+            NO_CHOICE
         }
     }
 
-    /// Two cuts left: both are multiples of e, and the last is settled by the other.
-    fn last_two(&self, k: usize, a: u32, e: u32) -> (u64, u32) {
+    /// Two cuts left: both are multiples of e, and the last is settled by the other. So their product
+    /// is a multiple of a and of e * e.
+    fn last_two(&self, k: usize, a: u32, e: u32) -> Choice {
         let weight = u64::from(self.job.weights[k]);
         let last_weight = u64::from(self.job.weights[k + 1]);
         let parts = a / e;
-        let (mut best, mut cut) = (NONE, 0);
+        let fewest = u64::from(e) * u64::from(lcm(e, parts));
+        let mut best = NO_CHOICE;
         for &t in self.divisors {
             let b = e * t;
             let cost = u64::from(b - 1) * weight;
             let at_least = cost + u64::from(e - 1) * last_weight;
-            if t > parts || b > self.job.extents[k] || at_least >= best {
+            if t > parts || b > self.job.extents[k] || (at_least, fewest) >= (best.0, best.1) {
                 break;
             }
             if parts.is_multiple_of(t) {
                 let last = lcm(e, parts / t);
                 let cost = cost + u64::from(last - 1) * last_weight;
-                if last <= self.job.extents[k + 1] && cost < best {
-                    (best, cut) = (cost, b);
+                let tiles = u64::from(b) * u64::from(last);
+                if last <= self.job.extents[k + 1] && (cost, tiles) < (best.0, best.1) {
+                    best = (cost, tiles, b);
                 }
             }
         }
-        (best, cut)
+        best
     }
 
-    /// Three or more cuts left.
-    fn more(&mut self, k: usize, a: u32, e: u32) -> (u64, u32) {
+    /// Three or more cuts left. Those after b have a product that is a multiple of e.
+    fn more(&mut self, k: usize, a: u32, e: u32) -> Choice {
         let weight = u64::from(self.job.weights[k]);
-        let (mut best, mut cut) = (NONE, 0);
+        let mut best = NO_CHOICE;
         for &b in self.divisors {
             let cost = u64::from(b - 1) * weight;
+            let fewest = u64::from(a).max(u64::from(b) * u64::from(e));
             // The later dimensions may cost nothing.
-            if b > a || b > self.job.extents[k] || cost >= best {
+            if b > a || b > self.job.extents[k] || (cost, fewest) >= (best.0, best.1) {
                 break;
             }
             if !a.is_multiple_of(b) {
@@ -184,15 +199,17 @@ impl Search<'_> {
             }
             let (next_a, next_e) = after_cut(a, e, b);
             // Of two cuts left each is a multiple of e.
-            if self.job.d - k == 3 && cost + u64::from(next_e - 1) * self.last_weights >= best {
+            let at_least = cost + u64::from(next_e - 1) * self.last_weights;
+            if self.job.d - k == 3 && (at_least, fewest) >= (best.0, best.1) {
                 continue;
             }
-            let rest = self.least(k + 1, next_a, next_e);
-            if rest != NONE && cost + rest / 8192 < best {
-                (best, cut) = (cost + rest / 8192, b);
+            let (rest, tiles, _) = self.least(k + 1, next_a, next_e);
+            let tiles = u64::from(b) * tiles;
+            if rest != NONE && (cost + rest, tiles) < (best.0, best.1) {
+                best = (cost + rest, tiles, b);
             }
         }
-        (best, cut)
+        best
     }
 }
 
