@@ -1,4 +1,4 @@
-// Runs the grids of document 01 that are not starred, the examples beside its table, the slabs of document 02's request d, and figures of the timetable, on the calls. What it prints is held to the file stdout.
+// Runs the grids of document 01 that are not starred, the examples beside its table, the slabs of document 02's request d, jobs of its request f, and figures of the timetable, on the calls. What it prints is held to the file stdout.
 // Each function writes its lines into a lent list from a place on, and answers the place after them.
 ghost use mathlib.Core.Path.{_≡_};
 ghost use lib.ListN.{length};
@@ -402,6 +402,18 @@ fn put_uneven(out: &mut [u8], at: usize) -> usize
     put_visited(out, at, plan, 1, true, 0, 1)
 }
 
+// Jobs with all weights 0 on a roomy grid: all cuts cost the same, and those with the fewest tiles are chosen.
+fn put_ties(out: &mut [u8], at: usize) -> usize
+    ensures { λ r. ⌜ length (now (out .exit)) ≡ length (now (out .entry)) ⌝ }
+{
+    let room = [1000000u32; 5];
+    let zeros = [0u32; 5];
+    let mut next = put_job(out, at, 4, 3, &room[..3], &zeros[..3]);
+    next = put_job(out, next, 12, 3, &room[..3], &zeros[..3]);
+    next = put_job(out, next, 8, 4, &room[..4], &zeros[..4]);
+    put_job(out, next, 3360, 5, &room, &zeros)
+}
+
 fn main() {
     let mut out = [0u8; 4096];
     let mut n = put_squares(&mut out, 0);
@@ -415,6 +427,7 @@ fn main() {
     n = put_more_steps(&mut out, n);
     n = put_limits(&mut out, n);
     n = put_uneven(&mut out, n);
+    n = put_ties(&mut out, n);
     if n <= 4096 {
         let k = io::count(n as isize, &out);
         io::write_all(STDOUT_FILENO, &out[..k]);
