@@ -6,9 +6,9 @@ use link::questions::{hypercube, job_for_diagonal, lent};
 use oracle::plan::{plan_job, Plan};
 use oracle::random::Random;
 
-/// One job for every p up to 4,096, all weights 1, on a roomy grid.
-pub fn weights_one(d: u32) -> Vec<Job> {
-    let job = |p| roomy(p, &vec![1; d as usize]);
+/// One job for every p up to 4,096, all weights the same, on a roomy grid.
+pub fn one_weight(d: u32, weight: u32) -> Vec<Job> {
+    let job = |p| roomy(p, &vec![weight; d as usize]);
     (1..=4096).map(job).collect()
 }
 
@@ -85,6 +85,7 @@ pub fn hard() -> Vec<Job> {
         [1, 10, 100, 1000, 10_000],
         [10_000, 1000, 100, 10, 1],
         [0, 1, 1, 1, 43_003_125],
+        [0, 0, 0, 1, 1],
         [0, 0, 1, 30_809, 1559],
         [0, 55, 58, 0, 1_762_324_234],
         [4, 4, 4, 13, 410_143],

@@ -47,6 +47,7 @@ fn main() -> ExitCode {
     let repeats = request.repeats;
     print_head(PROVED.name, RIVAL.name);
     plans(repeats);
+    weights_zero(repeats);
     planning_otherwise(repeats);
     longest_jobs();
     diagonals(repeats);
@@ -102,7 +103,7 @@ fn contest_of_plans(
 /// each by itself.
 fn plans(repeats: usize) {
     for (d, target) in [(2, 4.0), (3, 1.4), (4, 0.5), (5, 0.15)] {
-        let ones = jobs::weights_one(d);
+        let ones = jobs::one_weight(d, 1);
         let others = jobs::other_weights(1, d);
         let both: Vec<Job> = ones.iter().chain(&others).cloned().collect();
         for (kind, target, jobs) in [
@@ -114,6 +115,42 @@ fn plans(repeats: usize) {
             print_line(&contest_of_plans(&what, target, repeats, &jobs, RIVAL.plan));
         }
     }
+}
+
+/// Jobs with all weights 0, where every cut vector costs the same, beside the same jobs with weights
+/// 1: the mean over every p, and the job that takes longest in proportion.
+fn weights_zero(repeats: usize) {
+    let mut worst = Contest {
+        what: "the job that weights 0 slow down most".to_string(),
+        ours: vec![0.0],
+        theirs: vec![1.0],
+        target: Some(2.0),
+    };
+    for d in 2..=5 {
+        let (zeros, ones) = (jobs::one_weight(d, 0), jobs::one_weight(d, 1));
+        let all = |jobs: &[Job]| {
+            for job in jobs {
+                black_box(plan(PROVED.plan, job));
+            }
+            0
+        };
+        print_line(&contest(
+            &format!("planning, d = {d}, weights 0 beside weights 1"),
+            Some(2.0),
+            zeros.len(),
+            repeats,
+            || all(&zeros),
+            || all(&ones),
+        ));
+        for (zero, one) in zeros.iter().zip(&ones) {
+            let least = |job| least_seconds(9, || plan(PROVED.plan, job));
+            let (ours, theirs) = (least(zero), least(one));
+            if ours / theirs > worst.ratio() {
+                (worst.ours, worst.theirs) = (vec![ours], vec![theirs]);
+            }
+        }
+    }
+    print_line(&worst);
 }
 
 /// The mix of every p and d beside quicker ways to plan.
