@@ -12,6 +12,8 @@
  * - A plan list is any list of 50 numbers. One that multipartition_plan or multipartition_diagonal wrote is in shape, and its tiles are even: every
  *   processor owns equally many tiles in every slab of every dimension. One that is made or changed by hand is answered by the same formulas where
  *   it is in shape, and refused with 6 where it is not; of such a list it is not said that its tiles are even, whatever its kind.
+ * - The cuts that multipartition_plan writes are the cheapest of all even cuts that fit, where a dimension costs (cut - 1) * weight; among equal costs
+ *   those with the fewest tiles, and among these the ones with the smaller cut at the first dimension that differs.
  * - In every plan list in shape the slabs of a dimension hold each of its elements once, and multipartition_slab_of names the slab that holds it. The
  *   first (extent modulo cut) slabs have one element more than the others; so no slab has more elements than one before it, nor fewer than the extent
  *   divided by the cut, rounded down, and two of them differ by at most one.
