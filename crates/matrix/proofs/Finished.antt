@@ -15,7 +15,7 @@ use Rattle.multipartition.specs.Plans.{entryAt}
 use Rattle.multipartition.specs.WholeNumbers.{Stands}
 use Rattle.multipartition.proofs.WholeNumbers.{stands-dvd, stands-remainder}
 use Rattle.layout.specs.Plans.{five}
-use Rattle.matrix.specs.Rows.{rowAt, at, Dividing, Finished, reducedAt}
+use Rattle.matrix.specs.Rows.{rowAt, at, Dividing, Finished, Before, reducedAt}
 use Rattle.matrix.proofs.Padding.{five-at}
 use Rattle.matrix.proofs.Moduli.{modulus-dvd}
 use Rattle.matrix.proofs.Rows.{row-same, entry-at, entry-past-row, entry-past-column}
@@ -24,30 +24,36 @@ module _ (p : ℕ) (cuts moduli : List ℕ) where
   pub finished-none : Finished p cuts moduli (replicate 25 0) 0
   finished-none = record { long = refl; stands = λ i c l b. absurd (omega arith); small = λ k l. absurd (omega arith) }
 
-  pub finished-more : (rows : List ℕ) (n v : ℕ) → n < 25 → Finished p cuts moduli rows n
-      → Stands p (rowAt (at cuts) (at moduli) (n / 5) (suc (n % 5))) v → v ≤ 4096 → Finished p cuts moduli (set rows n v) (n + 1)
-  finished-more rows n v l f e b = record {
+  pub finished-more : (rows : List ℕ) (i c v : ℕ) → i < 5 → c < 5 → Finished p cuts moduli rows (i * 5 + c)
+      → Stands p (rowAt (at cuts) (at moduli) i (suc c)) v → v ≤ 4096 → Finished p cuts moduli (set rows (i * 5 + c) v) (i * 5 + (c + 1))
+  finished-more rows i c v li lc f e b = record {
     long = length-set rows n v ∙ f .long;
-    stands = λ i c h m. stand i c h m (decLe n (i * 5 + c));
-    small = λ k m. low k m (decLe n k);
+    stands = λ k m h l. stand k m h l (decLe n (k * 5 + m));
+    small = λ k l. low k l (decLe n k);
   }
     where
+      n : ℕ
+      n = i * 5 + c
+
       here : at (set rows n v) n ≡ v
       here = getD-set-same rows n v 0 (omega (arith, f .long))
 
-      stand : (i c : ℕ) → c < 5 → i * 5 + c < n + 1 → Dec (n ≤ i * 5 + c)
-          → Stands p (rowAt (at cuts) (at moduli) i (suc c)) (at (set rows n v) (i * 5 + c))
-      stand i c h m (yes q) =
-          let place : i * 5 + c ≡ n = omega arith in
-          let row : i ≡ n / 5 = omega arith in
-          let column : c ≡ n % 5 = omega arith in
-          rw (place, here, row, column) e
-      stand i c h m (no q) =
-          rw (getD-set-other rows n (i * 5 + c) v 0 (λ (s : i * 5 + c ≡ n). q (omega arith))) (f .stands i c h (omega arith))
+      stand : (k m : ℕ) → m < 5 → k * 5 + m < i * 5 + (c + 1) → Dec (n ≤ k * 5 + m)
+          → Stands p (rowAt (at cuts) (at moduli) k (suc m)) (at (set rows n v) (k * 5 + m))
+      stand k m h l (yes q) =
+          let row : k ≡ i = omega arith in
+          let column : m ≡ c = omega arith in
+          rw (row, column, here) e
+      stand k m h l (no q) =
+          rw (getD-set-other rows n (k * 5 + m) v 0 (λ (s : k * 5 + m ≡ n). q (omega arith))) (f .stands k m h (omega arith))
 
-      low : (k : ℕ) → k < n + 1 → Dec (n ≤ k) → at (set rows n v) k ≤ 4096
-      low k m (yes q) = let s : k ≡ n = omega arith in rw (s, here) b
-      low k m (no q) = rw (getD-set-other rows n k v 0 (λ (s : k ≡ n). q (omega arith))) (f .small k (omega arith))
+      low : (k : ℕ) → k < i * 5 + (c + 1) → Dec (n ≤ k) → at (set rows n v) k ≤ 4096
+      low k l (yes q) = let s : k ≡ n = omega arith in rw (s, here) b
+      low k l (no q) = rw (getD-set-other rows n k v 0 (λ (s : k ≡ n). q (omega arith))) (f .small k (omega arith))
+
+  -- from the start of row i to its column c
+  pub before-column : {rows′ rows : List ℕ} {i c : ℕ} → Before p cuts moduli rows′ i 0 → c < 5 → Finished p cuts moduli rows (i * 5 + c) → Before p cuts moduli rows i c
+  before-column b l f = record { p-low = b .p-low; p-high = b .p-high; row = b .row; column = l; divides = b .divides; finished = f }
 
 -- ---- a place of the matrix by the code's tests
 

@@ -1,5 +1,6 @@
 pub mod Padding
 pub mod Moduli
 pub mod Rows
+pub mod Multiplying
 pub mod Taking
 pub mod Finished

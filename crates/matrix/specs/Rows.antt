@@ -3,12 +3,12 @@
 use mathlib.Core.Path.{_≡_}
 use mathlib.Core.Bool.{cond, _||_}
 use mathlib.Core.List.{List, [], _∷_}
-use Prim.Native.Nat.{ℕ, zero, suc, pred, _+_, _*_, _/_, _%_, _≤_, _<_, _∣_}
+use Prim.Native.Nat.{ℕ, zero, suc, pred, _+_, _-_, _*_, _/_, _%_, _≤_, _<_, _∣_}
 use lib.Dec.{leb}
 use lib.IntN.{pos}
 use lib.ListN.{getD, length}
 use Rattle.numbers.specs.Sums.{same}
-use Rattle.multipartition.specs.Matrix.{Row, startRow, finish, finishedRows}
+use Rattle.multipartition.specs.Matrix.{Row, startRow, factor, next, finish, finishedRows}
 use Rattle.multipartition.specs.WholeNumbers.{Stands}
 
 -- f n, .., f 1
@@ -26,6 +26,15 @@ unfoldable pub rowAt : (ℕ → ℕ) → (ℕ → ℕ) → ℕ → Row
 rowAt cut modulus i =
     finish (startAt i) (modulus i) (backward cut (pred i)) (backward modulus (pred i)) (finishedRows (backward cut (pred i)) (backward modulus (pred i)))
 
+-- "r begins as mi" and "becomes gcd(t·mj, r)": r of row i when it has taken n rows, from row i - 1 down
+unfoldable pub rAfter : (ℕ → ℕ) → (ℕ → ℕ) → ℕ → ℕ → ℕ
+rAfter cut modulus i zero = modulus i
+rAfter cut modulus i (suc n) = next (rAfter cut modulus i n) (cut (i - suc n)) (modulus (i - suc n))
+
+-- "t = r / gcd(r, bj)": the multiplier with which row i takes row j
+unfoldable pub multiplierAt : (ℕ → ℕ) → (ℕ → ℕ) → ℕ → ℕ → ℕ
+multiplierAt cut modulus i j = factor (rAfter cut modulus i (i - suc j)) (cut j)
+
 -- the number at a place
 abbrev pub at : List ℕ → ℕ → ℕ
 at xs k = getD xs k 0
@@ -41,6 +50,18 @@ pub record Finished (p : ℕ) (cuts moduli rows : List ℕ) (n : ℕ) : Type 0 w
   pub stands : (i c : ℕ) → c < 5 → i * 5 + c < n → Stands p (rowAt (at cuts) (at moduli) i (suc c)) (at rows (i * 5 + c))
   pub small : (k : ℕ) → k < n → at rows k ≤ 4096
 
+-- the moduli up to place i are neither 0 nor large
+abbrev pub Moderate : List ℕ → ℕ → Type 0
+Moderate moduli i = (k : ℕ) → k ≤ i → (1 ≤ at moduli k) × (at moduli k ≤ 4096)
+
+-- the multipliers of row i stand at the places of the rows that it takes, and none is large
+abbrev pub Multipliers : List ℕ → List ℕ → List ℕ → ℕ → Type 0
+Multipliers cuts moduli ts i = (j : ℕ) → 1 ≤ j → j < i → (at ts j ≡ multiplierAt (at cuts) (at moduli) i j) × (at ts j ≤ 4096)
+
+-- what is multiplied for column c of row i is not large
+abbrev pub Bounded : List ℕ → List ℕ → ℕ → ℕ → Type 0
+Bounded ts rows i c = (j : ℕ) → 1 ≤ j → j < i → (at ts j ≤ 4096) × (at rows (j * 5 + c) ≤ 4096)
+
 -- what column c of row i is made from
 pub record Before (p : ℕ) (cuts moduli rows : List ℕ) (i c : ℕ) : Type 0 where
   pub p-low : 1 ≤ p
@@ -49,6 +70,11 @@ pub record Before (p : ℕ) (cuts moduli rows : List ℕ) (i c : ℕ) : Type 0 w
   pub column : c < 5
   pub divides : Dividing p moduli (suc i)
   pub finished : Finished p cuts moduli rows (i * 5 + c)
+
+-- x stands for column c of row i, by whichever cuts and moduli the multipliers and the rows before it are made
+abbrev pub StandsFor : ℕ → List ℕ → List ℕ → ℕ → ℕ → ℕ → Type 0
+StandsFor p ts rows i c x =
+    (cuts moduli : List ℕ) → Before p cuts moduli rows i c → Multipliers cuts moduli ts i → Stands p (rowAt (at cuts) (at moduli) i (suc c)) x
 
 -- "After the last row, each row i is replaced by its remainders modulo mi": place n of the matrix, which is zero past row and column d
 unfoldable pub reducedAt : List ℕ → List ℕ → ℕ → ℕ → ℕ

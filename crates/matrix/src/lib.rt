@@ -7,9 +7,8 @@ ghost use lib.IntN.{pos};
 ghost use lib.ListN.{take, replicate};
 ghost use Rattle.multipartition.specs.Moduli.{moduliOf};
 ghost use Rattle.multipartition.specs.Matrix.{matrixOf};
-ghost use Rattle.multipartition.specs.WholeNumbers.{Stands};
 ghost use Rattle.layout.specs.Plans.{five, flat};
-ghost use Rattle.matrix.specs.Rows.{startAt, rowAt, at, Dividing, Finished, Before, reducedAt};
+ghost use Rattle.matrix.specs.Rows.{startAt, at, Moderate, Multipliers, Bounded, StandsFor, Dividing, Finished, Before, reducedAt};
 
 // The moduli, from the last dimension to the first: each is what its cut shares with what the later ones leave of p.
 pub fn moduli_of(p: u32, cuts: [u32; 5], d: usize) -> [u32; 5]
@@ -44,27 +43,53 @@ fn started(i: usize, c: usize) -> u32
 // x less t times y, modulo p.
 fn less(p: u32, x: u32, t: u32, y: u32) -> u32
     requires { ⌜ (1 ≤ p) × (p ≤ 4096) × (x ≤ 4096) × (t ≤ 4096) × (y ≤ 4096) ⌝ }
-    ensures { λ r. ⌜ r ≡ (x + (p - t * y % p)) % p ⌝ }
+    ensures { λ r. ⌜ (r ≡ (x + (p - t * y % p)) % p) × (r < p) ⌝ }
 {
     (x + (p - t * y % p)) % p
 }
 
-// Column c of row i modulo p, from the same column of the rows before it.
-fn entry(p: u32, cuts: &[u32; 5], moduli: &[u32; 5], rows: &[u32; 25], i: usize, c: usize) -> u32
-    requires { ⌜ Before p (now cuts) (now moduli) (now rows) i c ⌝ }
-    ensures { λ r. ⌜ (Stands p (rowAt (at (now (cuts .entry))) (at (now (moduli .entry))) i (suc c)) r) × (r ≤ 4096) ⌝ }
+// The multipliers of row i at the places of the rows that it takes, from row i - 1 down to row 1.
+fn multipliers(cuts: &[u32; 5], moduli: &[u32; 5], i: usize) -> [u32; 5]
+    requires { ⌜ (i < 5) × Moderate (now moduli) i ⌝ }
+    ensures { λ r. ⌜ Multipliers (now (cuts .entry)) (now (moduli .entry)) r i ⌝ }
 {
-    let mut x = started(i, c);
+    let mut ts: [u32; 5] = [0; 5];
     let mut r = moduli[i];
     let mut j = i;
     while 1 < j {
         j = j - 1;
         let t = r / gcd(r, cuts[j]);
-        let place = j * 5 + c;
-        x = less(p, x, t, rows[place]);
+        ts[j] = t;
         r = gcd(t * moduli[j], r);
     }
+    ts
+}
+
+// Column c of row i modulo p, from the row's multipliers and the same column of the rows before it.
+fn entry(p: u32, ts: &[u32; 5], rows: &[u32; 25], i: usize, c: usize) -> u32
+    requires { ⌜ (1 ≤ p) × (p ≤ 4096) × (i < 5) × (c < 5) × Bounded (now ts) (now rows) i c ⌝ }
+    ensures { λ r. ⌜ (r ≤ 4096) × StandsFor p (now (ts .entry)) (now (rows .entry)) i c r ⌝ }
+{
+    let mut x = started(i, c);
+    let mut j = i;
+    while 1 < j {
+        j = j - 1;
+        let place = j * 5 + c;
+        x = less(p, x, ts[j], rows[place]);
+    }
     x
+}
+
+// Row i modulo p, after the rows before it.
+fn finish_row(p: u32, cuts: &[u32; 5], moduli: &[u32; 5], rows: &mut [u32; 25], i: usize)
+    requires { ⌜ Before p (now cuts) (now moduli) (now rows) i 0 ⌝ }
+    ensures { λ r. ⌜ Finished p (now (cuts .entry)) (now (moduli .entry)) (now (rows .exit)) (i * 5 + 5) ⌝ }
+{
+    let ts = multipliers(cuts, moduli, i);
+    for c in 0..5usize {
+        let place = i * 5 + c;
+        rows[place] = entry(p, &ts, rows, i, c);
+    }
 }
 
 // All rows modulo p, one after the other.
@@ -73,9 +98,8 @@ fn finish_rows(p: u32, cuts: [u32; 5], moduli: [u32; 5], d: usize) -> [u32; 25]
     ensures { λ r. ⌜ Finished p cuts moduli r (d * 5) ⌝ }
 {
     let mut rows: [u32; 25] = [0; 25];
-    let places = d * 5;
-    for n in 0..places {
-        rows[n] = entry(p, &cuts, &moduli, &rows, n / 5, n % 5);
+    for i in 0..d {
+        finish_row(p, &cuts, &moduli, &mut rows, i);
     }
     rows
 }

@@ -1,4 +1,5 @@
 -- `less` meets its contract.
+use mathlib.Core.Path.{refl}
 use Prim.Native.Nat.{_*_}
 use native.Mathlib.Nat.{mod-lt, mul-le-mul}
 use native.Mathlib.Omega.{arith}
@@ -22,7 +23,7 @@ rem-result-2 : tie.Need-rem-result-2
 rem-result-2 c = search needs
 
 returns : tie.Need-returns
-returns c = search needs
+returns c = (refl, mod-lt _ (c .pre .0))
 
 pub less-spec : {M : Type 1} → statement M
 less-spec = tie.close (tie.spec mul-result rem-result sub-result add-result rem-result-2 returns)
