@@ -3,7 +3,7 @@ ghost use mathlib.Core.Path.{_≡_};
 ghost use Prim.Native.Nat.{_*_, _/_, _≤_, _<_};
 ghost use lib.ListN.{length};
 ghost use Rattle.numbers.specs.Gcd.{gcd as theGcd};
-ghost use Rattle.cuts.specs.Questions.{Among, Divisors};
+ghost use Rattle.cuts.specs.Questions.{cofactorOf, Among, Divisors};
 ghost use Rattle.cuts.specs.Memory.{Placed};
 ghost use Rattle.cuts.specs.Pairs.{PairAt, Shares};
 use crate::known::place_of;
@@ -41,6 +41,17 @@ pub fn spare_left(divisors: &[u32], places: &[u8], spare: u32, t: u32, g: u32) -
         return g;
     }
     g * (spare / shared(divisors, places, spare, t))
+}
+
+// The number whose divisors, times the unit, are all the first cuts that need be tried.
+pub fn cofactor_of(divisors: &[u32], places: &[u8], left: usize, spare: u32, each: u32) -> u32
+    requires { ⌜ Shares (now divisors) (now places) × Among (now divisors) (length (now divisors)) spare × Among (now divisors) (length (now divisors)) each × (0 < spare) × (spare * each ≤ 4096) ⌝ }
+    ensures { λ r. ⌜ r ≡ cofactorOf left spare each ⌝ }
+{
+    if left == 2 {
+        return spare / shared(divisors, places, spare, each);
+    }
+    spare * each
 }
 
 // Sets the table, as far as the list goes: the place of what the i-th and the j-th divisor share, for each j up to i.
