@@ -31,7 +31,8 @@
  * What a caller must see to, since C does not check it: every pointer is not null, also for a list of length 0, points to as many numbers as
  * its length says, no answer list shares a place with another list of the call, and the thread has the stack that the call needs, which is
  * measured and not proved (MULTIPARTITION_PLAN_STACK and the like below). Where slabs begin is not in a plan list, and earlier archives had other
- * edges for the same list: all programs of a run link one archive, and data stored by slab are read by the edges that they were written with.
+ * edges for the same list and, among equal costs, other cuts for the same job: all programs of a run link one archive, and data stored by slab or by
+ * tile are read by the edges and the plan that they were written with.
  */
 #ifndef MULTIPARTITION_H
 #define MULTIPARTITION_H
@@ -110,7 +111,7 @@ enum {
 /* The bytes of stack that must be left where a call is made, on x86-64: measured, with a quarter or more to spare, also for the first call of a
  * process, in which the dynamic linker looks up memcpy and memset on the same stack. */
 enum {
-    MULTIPARTITION_PLAN_STACK = 73728,
+    MULTIPARTITION_PLAN_STACK = 106496,
     MULTIPARTITION_CHAINS_STACK = 12288,
     MULTIPARTITION_TIMETABLE_STACK = 49152,
     MULTIPARTITION_QUESTION_STACK = 8192 /* all other calls, multipartition_diagonal too */

@@ -69,14 +69,8 @@ fn plan(plan: PlanCall, job: &Job) -> u64 {
     }
 }
 
-/// The same jobs planned by both sides, whose plans are compared first.
-fn contest_of_plans(
-    what: &str,
-    target: Option<f64>,
-    repeats: usize,
-    jobs: &[Job],
-    rival: PlanCall,
-) -> Contest {
+/// Both sides must plan every job alike.
+fn compare_plans(jobs: &[Job], rival: PlanCall) {
     for Job {
         p,
         d,
@@ -88,6 +82,17 @@ fn contest_of_plans(
         let theirs = rival(*p, *d, extents, weights);
         assert!(ours == theirs, "{p} {d} {extents:?} {weights:?}");
     }
+}
+
+/// The same jobs planned by both sides, whose plans are compared first.
+fn contest_of_plans(
+    what: &str,
+    target: Option<f64>,
+    repeats: usize,
+    jobs: &[Job],
+    rival: PlanCall,
+) -> Contest {
+    compare_plans(jobs, rival);
     let all = |call: PlanCall| jobs.iter().map(|job| plan(call, job)).sum();
     contest(
         what,
@@ -118,16 +123,18 @@ fn plans(repeats: usize) {
 }
 
 /// Jobs with all weights 0, where every cut vector costs the same, beside the same jobs with weights
-/// 1: the mean over every p, and the job that takes longest in proportion.
+/// 1: the mean over every p, and the job that takes longest in proportion. Both columns are the proved
+/// call's; its plans are compared with the rival's first.
 fn weights_zero(repeats: usize) {
     let mut worst = Contest {
-        what: "the job that weights 0 slow down most".to_string(),
+        what: String::new(),
         ours: vec![0.0],
         theirs: vec![1.0],
         target: Some(2.0),
     };
     for d in 2..=5 {
         let (zeros, ones) = (jobs::one_weight(d, 0), jobs::one_weight(d, 1));
+        compare_plans(&zeros, RIVAL.plan);
         let all = |jobs: &[Job]| {
             for job in jobs {
                 black_box(plan(PROVED.plan, job));
@@ -146,6 +153,7 @@ fn weights_zero(repeats: usize) {
             let least = |job| least_seconds(9, || plan(PROVED.plan, job));
             let (ours, theirs) = (least(zero), least(one));
             if ours / theirs > worst.ratio() {
+                worst.what = format!("planning {} on d = {d}, weights 0 beside weights 1", zero.p);
                 (worst.ours, worst.theirs) = (vec![ours], vec![theirs]);
             }
         }
@@ -188,6 +196,7 @@ fn longest_jobs() {
         ("longest job", 0.25, jobs::hard()),
         ("longest job of d = 3", 1.2, jobs::three_dimensions()),
     ] {
+        compare_plans(&jobs, RIVAL.plan);
         let ours = longest(PROVED.plan, &jobs);
         let rivals: [(&str, Option<f64>, PlanCall); 2] = [
             ("", Some(target), RIVAL.plan),

@@ -1,4 +1,4 @@
--- Request a of document 02: a lone processor costs nothing, and the cuts chosen for a job are those that the former cost chose.
+-- Request a of document 02: a lone processor costs nothing, and the cuts chosen for a job are those that the former cost chooses by the same order.
 use mathlib.Core.Path.{_≡_, refl, sym, _∙_, ap, subst⁻¹}
 use mathlib.Core.Logic.{_↔_}
 use mathlib.Core.List.{List, [], _∷_}
@@ -90,7 +90,8 @@ cost-drops (n ∷ most) (w ∷ weights) (suc b ∷ cuts) f =
 -- ---- the cuts chosen by the former cost
 
 module _ (job : Job) where
-  -- What the former definition answered: even, fitting cuts that precede all others by the former cost; or nothing, where no fitting cuts are even.
+  -- What the former cost chooses: even, fitting cuts that precede all others by it, tiles and first cuts deciding among equals as they do now; or
+  -- nothing, where no fitting cuts are even.
   abbrev pub FormerlyChosen : Option (List ℕ) → Type 0
   FormerlyChosen none = (v : List ℕ) → Fits (job .extents) v → Even (job .p) v → ⊥
   FormerlyChosen (some u) =

@@ -4,7 +4,8 @@
 use crate::cuts::elementary;
 use crate::random::Random;
 
-/// The grids and remarks of document 01, the limits of its ranges, and jobs of the largest size.
+/// The grids and remarks of document 01, the limits of its ranges, jobs that fewer tiles decide
+/// (document 02, f), and jobs of the largest size.
 pub fn fixed() -> Vec<Vec<u8>> {
     let lines = [
         "4 3 8 8 8 1 1 1",

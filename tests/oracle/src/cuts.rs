@@ -337,7 +337,7 @@ mod tests {
 
     /// "The chosen cuts don't move, since the sum drops by the same amount for all of them."
     #[test]
-    fn the_former_cost_chose_the_same_cuts() {
+    fn the_former_cost_chooses_the_same_cuts() {
         let mut random = Random::new(5);
         for _ in 0..2000 {
             let (p, extents, weights) = small_job(&mut random);
