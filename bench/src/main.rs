@@ -124,7 +124,7 @@ fn plans(repeats: usize) {
 
 /// Jobs with all weights 0, where every cut vector costs the same, beside the same jobs with weights
 /// 1: the mean over every p, and the job that takes longest in proportion. Both columns are the proved
-/// call's; its plans are compared with the rival's first.
+/// call's; its plans for weights 0 are compared with the rival's first.
 fn weights_zero(repeats: usize) {
     let mut worst = Contest {
         what: String::new(),
@@ -176,7 +176,7 @@ fn planning_otherwise(repeats: usize) {
             planning::figure_2_leaving_early,
         ),
         (
-            "planning, beside the proved search in Rust",
+            "planning, beside such a search in Rust",
             None,
             planning::remembered,
         ),
@@ -196,7 +196,6 @@ fn longest_jobs() {
         ("longest job", 0.25, jobs::hard()),
         ("longest job of d = 3", 1.2, jobs::three_dimensions()),
     ] {
-        compare_plans(&jobs, RIVAL.plan);
         let ours = longest(PROVED.plan, &jobs);
         let rivals: [(&str, Option<f64>, PlanCall); 2] = [
             ("", Some(target), RIVAL.plan),
@@ -207,6 +206,7 @@ fn longest_jobs() {
             ),
         ];
         for (beside, target, rival) in rivals {
+            compare_plans(&jobs, rival);
             print_line(&Contest {
                 what: format!("{what}{beside}"),
                 ours: vec![ours],
