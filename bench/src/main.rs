@@ -150,8 +150,16 @@ fn weights_zero(repeats: usize) {
             || all(&ones),
         ));
         for (zero, one) in zeros.iter().zip(&ones) {
-            let least = |job| least_seconds(9, || plan(PROVED.plan, job));
-            let (ours, theirs) = (least(zero), least(one));
+            let times = |runs| {
+                let least = |job| least_seconds(runs, || plan(PROVED.plan, job));
+                (least(zero), least(one))
+            };
+            let (ours, theirs) = times(9);
+            if ours / theirs <= worst.ratio() {
+                continue;
+            }
+            // A disturbance is not the job's.
+            let (ours, theirs) = times(199);
             if ours / theirs > worst.ratio() {
                 worst.what = format!("planning {} on d = {d}, weights 0 beside weights 1", zero.p);
                 (worst.ours, worst.theirs) = (vec![ours], vec![theirs]);

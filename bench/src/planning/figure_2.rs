@@ -16,7 +16,6 @@ struct Enumeration<'a> {
     leave_early: bool,
     /// The least sum of b * w so far.
     cost: u64,
-    tiles: u64,
     cuts: Cuts,
 }
 
@@ -61,7 +60,6 @@ pub fn cheapest(job: &Job, leave_early: bool) -> Option<(u64, Cuts)> {
         distributions: &distributions,
         leave_early,
         cost: u64::MAX,
-        tiles: u64::MAX,
         cuts: [u32::MAX; 5],
     };
     if distributions.factors == 0 {
@@ -138,14 +136,18 @@ impl Enumeration<'_> {
         for (&b, &w) in cuts.iter().zip(&self.job.weights) {
             cost += u64::from(b) * u64::from(w);
         }
-        if self.fits(&cuts) && cost <= self.cost {
-            let tiles = tiles(&cuts[..self.job.d]);
-            if cost < self.cost || (tiles, cuts) < (self.tiles, self.cuts) {
-                self.cost = cost;
-                self.tiles = tiles;
-                self.cuts = cuts;
-            }
+        if self.fits(&cuts) && (cost < self.cost || cost == self.cost && self.come_first(&cuts)) {
+            self.cost = cost;
+            self.cuts = cuts;
         }
+    }
+
+    /// Among equal costs: fewer tiles, or as many and the smaller cut where they first differ.
+    #[cold]
+    #[inline(never)]
+    fn come_first(&self, cuts: &Cuts) -> bool {
+        let d = self.job.d;
+        (tiles(&cuts[..d]), *cuts) < (tiles(&self.cuts[..d]), self.cuts)
     }
 }
 

@@ -15,7 +15,6 @@ struct Nested<'a> {
     factors: usize,
     /// The least sum of b * w so far.
     cost: u64,
-    tiles: u64,
     cuts: Cuts,
 }
 
@@ -27,7 +26,6 @@ impl Nested<'_> {
             times: [0; 5],
             factors: 0,
             cost: u64::MAX,
-            tiles: u64::MAX,
             cuts: [u32::MAX; 5],
         };
         let mut left = job.p;
@@ -92,13 +90,15 @@ impl Nested<'_> {
             }
             cost += u64::from(b) * u64::from(w);
         }
-        if cost <= self.cost {
-            let tiles = tiles(&cuts[..self.job.d]);
-            if cost < self.cost || (tiles, cuts) < (self.tiles, self.cuts) {
-                self.cost = cost;
-                self.tiles = tiles;
-                self.cuts = cuts;
-            }
+        if cost < self.cost || cost == self.cost && self.come_first(&cuts) {
+            self.cost = cost;
+            self.cuts = cuts;
         }
+    }
+
+    /// Among equal costs: fewer tiles, or as many and the smaller cut where they first differ.
+    fn come_first(&self, cuts: &Cuts) -> bool {
+        let d = self.job.d;
+        (tiles(&cuts[..d]), *cuts) < (tiles(&self.cuts[..d]), self.cuts)
     }
 }
