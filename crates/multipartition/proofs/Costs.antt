@@ -1,10 +1,10 @@
 -- Request a of document 02: a lone processor costs nothing, and the cuts chosen for a job are those that the former cost chooses by the same order.
-use mathlib.Core.Path.{_≡_, refl, sym, _∙_, ap, subst⁻¹}
+use mathlib.Core.Path.{_≡_, refl, sym, _∙_, ap, subst, subst⁻¹}
 use mathlib.Core.Logic.{_↔_}
 use mathlib.Core.List.{List, [], _∷_}
 use mathlib.Core.Option.{Option, none, some}
 use Prim.Native.Nat.{ℕ, zero, suc, _+_, _-_, _*_, _∣_, _≤_, _<_}
-use native.Mathlib.Nat.{not-suc-le-zero, zero-lt-suc, le-refl, one-dvd, suc-mul}
+use native.Mathlib.Nat.{not-suc-le-zero, zero-lt-suc, le-refl, le-trans, one-dvd, mul-comm, suc-mul}
 use native.Mathlib.Omega.{arith}
 use lib.ListN.{length, getD}
 use Rattle.numbers.specs.Products.{product, without}
@@ -13,9 +13,10 @@ use Rattle.multipartition.specs.Cuts.{Even, Within, Fits, cutCost, costO
 use Rattle.multipartition.specs.Plans.{Job, Layout, layoutWith}
 use Rattle.multipartition.specs.Jobs.{Passed, cheapestFor, planWith, planAnswer}
 use Rattle.multipartition.proofs.Order.{PrecedesBy, precedes-iff-shifted}
-use Rattle.multipartition.proofs.Fitting.{fits-iff-within}
-use Rattle.multipartition.proofs.Cheapest.{Cheapest, cheapest-law, cheapest-le}
-use Rattle.multipartition.proofs.Chosen.{chosen-is, none-chosen}
+use Rattle.multipartition.proofs.Fitting.{within-length, within-positive, within-le, fits-length, fits-positive, fits-thickness, le-mul-of-pos}
+use Rattle.multipartition.proofs.Cheapest.{Cheapest, cheapest-law, cheapest-within, cheapest-le}
+use Rattle.multipartition.proofs.Chosen.{mostFor, chosen-is, fits-iff, none-chosen, chosen-fits}
+use Rattle.multipartition.proofs.Minimal.{positive-at}
 use Rattle.multipartition.proofs.Jobs.{plan-of-passed, plan-answered}
 
 -- ---- a lone processor
@@ -35,27 +36,58 @@ uncut-within : (most : List ℕ) → ((k : ℕ) → k < length most → 1 ≤ ge
 uncut-within [] h = tt
 uncut-within (n ∷ most) h = (le-refl 1, h 0 (zero-lt-suc (length most)), uncut-within most (λ k l. h (suc k) (omega arith)))
 
+-- where there are cuts within bounds, no bound is 0
+bound-of-within : (most cuts : List ℕ) → Within most cuts → (k : ℕ) → k < length most → 1 ≤ getD most k 0
+bound-of-within most cuts w k l =
+    let here : k < length cuts = subst⁻¹ (λ (n : ℕ). k < n) (within-length most cuts w) l in
+    le-trans (positive-at cuts (within-positive most cuts w) k here) (within-le most cuts w k here)
+
 even-of-lone : (p : ℕ) (cuts : List ℕ) → p ≡ 1 → Even p cuts
 even-of-lone p cuts lone k l = subst⁻¹ (λ (n : ℕ). n ∣ product (without k cuts)) lone (one-dvd (product (without k cuts)))
 
--- a job in range for a lone processor is accepted
-pub lone-accepted : (job : Job) → Passed job → job .p ≡ 1 → (plan : Layout) × (planAnswer job ≡ answered plan)
+-- the uncut grid fits just if no least thickness is above its extent
+uncut-fits : (extents least : List ℕ) → length least ≡ length extents → ((k : ℕ) → k < length extents → getD least k 0 ≤ getD extents k 0)
+    → Fits extents least (uncut extents)
+uncut-fits [] [] e h = tt
+uncut-fits [] (t ∷ least) e h = absurd (omega arith)
+uncut-fits (n ∷ extents) [] e h = absurd (omega arith)
+uncut-fits (n ∷ extents) (t ∷ least) e h =
+    let here : t ≤ n = h 0 (zero-lt-suc (length extents)) in
+    (le-refl 1, omega arith, uncut-fits extents least (omega arith) (λ k l. h (suc k) (omega arith)))
+
+-- A job in range for a lone processor is accepted just if no least thickness is above its extent.
+pub lone-accepted-iff : (job : Job) → Passed job → job .p ≡ 1
+    → ((plan : Layout) × (planAnswer job ≡ answered plan)) ↔ ((k : ℕ) → k < length (job .extents) → getD (job .least) k 0 ≤ getD (job .extents) k 0)
 unfolding planWith
-lone-accepted job passed lone = go (cheapestFor job) refl
+lone-accepted-iff job passed lone = (there, back (cheapestFor job) refl)
   where
-    go : (o : Option (List ℕ)) → cheapestFor job ≡ o → (plan : Layout) × (planAnswer job ≡ answered plan)
-    go none e =
-        let whole = fits-iff-within (job .extents) (uncut (job .extents)) .1 (uncut-within (job .extents) (passed .range .extent-low)) in
-        absurd (none-chosen job (uncut (job .extents)) e whole (even-of-lone (job .p) (uncut (job .extents)) lone))
-    go (some cuts) e = (layoutWith job cuts, plan-of-passed job passed ∙ ap (planWith job) e)
+    there : (plan : Layout) × (planAnswer job ≡ answered plan) → (k : ℕ) → k < length (job .extents) → getD (job .least) k 0 ≤ getD (job .extents) k 0
+    there (plan, e) k l =
+        let made = plan-answered job plan e in
+        let fits = chosen-fits job passed (plan .cuts) (made .cuts-are) in
+        let here : k < length (plan .cuts) = subst⁻¹ (λ (n : ℕ). k < n) (fits-length (job .extents) (job .least) (plan .cuts) fits) l in
+        let cut = positive-at (plan .cuts) (fits-positive (job .extents) (job .least) (plan .cuts) fits) k here in
+        le-mul-of-pos (getD (job .least) k 0) (getD (plan .cuts) k 0) (getD (job .extents) k 0) cut
+        (subst (λ (n : ℕ). n ≤ getD (job .extents) k 0) (mul-comm (getD (plan .cuts) k 0) (getD (job .least) k 0))
+        (fits-thickness (job .extents) (job .least) (plan .cuts) fits k here))
+
+    back : (o : Option (List ℕ)) → cheapestFor job ≡ o → ((k : ℕ) → k < length (job .extents) → getD (job .least) k 0 ≤ getD (job .extents) k 0)
+        → (plan : Layout) × (planAnswer job ≡ answered plan)
+    back none e h =
+        absurd (none-chosen job passed (uncut (job .extents)) e (uncut-fits (job .extents) (job .least) (passed .least-many ∙ sym (passed .extents-many)) h)
+        (even-of-lone (job .p) (uncut (job .extents)) lone))
+    back (some cuts) e h = (layoutWith job cuts, plan-of-passed job passed ∙ ap (planWith job) e)
 
 -- "A lone processor should cost nothing."
 pub lone-costs-nothing : (job : Job) (plan : Layout) → job .p ≡ 1 → planAnswer job ≡ answered plan → plan .cost ≡ 0
 lone-costs-nothing job plan lone e =
     let made = plan-answered job plan e in
-    let low = cheapest-le (job .p) (job .extents) (job .weights) (plan .cuts) (uncut (job .extents)) (sym (chosen-is job) ∙ made .cuts-are)
-    (uncut-within (job .extents) (made .passed .range .extent-low)) (even-of-lone (job .p) (uncut (job .extents)) lone) in
-    let free = uncut-free (job .weights) (job .extents) in
+    let most = mostFor job in
+    let is = sym (chosen-is job) ∙ made .cuts-are in
+    let low = cheapest-le (job .p) most (job .weights) (plan .cuts) (uncut most) is
+    (uncut-within most (bound-of-within most (plan .cuts) (cheapest-within (job .p) most (job .weights) (plan .cuts) is)))
+    (even-of-lone (job .p) (uncut most) lone) in
+    let free = uncut-free (job .weights) most in
     ap (λ (l : Layout). l .cost) (made .plan-is) ∙ omega (arith, low, free)
 
 -- ---- the former cost
@@ -66,11 +98,11 @@ formerCost [] cuts = 0
 formerCost (w ∷ weights) [] = 0
 formerCost (w ∷ weights) (b ∷ cuts) = b * w + formerCost weights cuts
 
--- the sum of the weights, one for each extent: of all weights, where there are as many
+-- the sum of the weights, one for each number of another list: of all weights, where there are as many
 abbrev pub weightsOver : List ℕ → List ℕ → ℕ
 weightsOver [] weights = 0
-weightsOver (n ∷ extents) [] = 0
-weightsOver (n ∷ extents) (w ∷ weights) = w + weightsOver extents weights
+weightsOver (n ∷ others) [] = 0
+weightsOver (n ∷ others) (w ∷ weights) = w + weightsOver others weights
 
 -- "the sum drops by the same amount for all of them"
 pub cost-drops : (most weights cuts : List ℕ) → Within most cuts → formerCost weights cuts ≡ costOf weights cuts + weightsOver most weights
@@ -89,36 +121,36 @@ cost-drops (n ∷ most) (w ∷ weights) (suc b ∷ cuts) f =
 
 -- ---- the cuts chosen by the former cost
 
-module _ (job : Job) where
+module _ (job : Job) (passed : Passed job) where
   -- What the former cost chooses: even, fitting cuts that precede all others by it, tiles and first cuts deciding among equals as they do now; or
   -- nothing, where no fitting cuts are even.
   abbrev pub FormerlyChosen : Option (List ℕ) → Type 0
-  FormerlyChosen none = (v : List ℕ) → Fits (job .extents) v → Even (job .p) v → ⊥
+  FormerlyChosen none = (v : List ℕ) → Fits (job .extents) (job .least) v → Even (job .p) v → ⊥
   FormerlyChosen (some u) =
-      Fits (job .extents) u × Even (job .p) u × ((v : List ℕ) → Fits (job .extents) v → Even (job .p) v → PrecedesBy (formerCost (job .weights)) u v)
+      Fits (job .extents) (job .least) u × Even (job .p) u × ((v : List ℕ) → Fits (job .extents) (job .least) v → Even (job .p) v → PrecedesBy (formerCost (job .weights)) u v)
 
-  precedes-iff-formerly : (u v : List ℕ) → Fits (job .extents) u → Fits (job .extents) v → Precedes (job .weights) u v ↔ PrecedesBy (formerCost (job .weights)) u v
+  precedes-iff-formerly : (u v : List ℕ) → Fits (job .extents) (job .least) u → Fits (job .extents) (job .least) v → Precedes (job .weights) u v ↔ PrecedesBy (formerCost (job .weights)) u v
   precedes-iff-formerly u v f g =
-      precedes-iff-shifted (formerCost (job .weights)) (job .weights) u v (weightsOver (job .extents) (job .weights))
-      (cost-drops (job .extents) (job .weights) u (fits-iff-within (job .extents) u .0 f)) (cost-drops (job .extents) (job .weights) v (fits-iff-within (job .extents) v .0 g))
+      precedes-iff-shifted (formerCost (job .weights)) (job .weights) u v (weightsOver (mostFor job) (job .weights))
+      (cost-drops (mostFor job) (job .weights) u (fits-iff job passed u .0 f)) (cost-drops (mostFor job) (job .weights) v (fits-iff job passed v .0 g))
 
   -- "The chosen cuts don't move": the same cuts are chosen by both costs.
   pub cuts-unmoved : (o : Option (List ℕ)) → (cheapestFor job ≡ o) ↔ FormerlyChosen o
   cuts-unmoved o = (
-    (λ e. there o (cheapest-law (job .p) (job .extents) (job .weights) o .0 (sym (chosen-is job) ∙ e))),
-    λ h. chosen-is job ∙ cheapest-law (job .p) (job .extents) (job .weights) o .1 (back o h),
+    (λ e. there o (cheapest-law (job .p) (mostFor job) (job .weights) o .0 (sym (chosen-is job) ∙ e))),
+    λ h. chosen-is job ∙ cheapest-law (job .p) (mostFor job) (job .weights) o .1 (back o h),
   )
     where
-      fits : (v : List ℕ) → Within (job .extents) v → Fits (job .extents) v
-      fits v = fits-iff-within (job .extents) v .1
+      fits : (v : List ℕ) → Within (mostFor job) v → Fits (job .extents) (job .least) v
+      fits v = fits-iff job passed v .1
 
-      within : (v : List ℕ) → Fits (job .extents) v → Within (job .extents) v
-      within v = fits-iff-within (job .extents) v .0
+      within : (v : List ℕ) → Fits (job .extents) (job .least) v → Within (mostFor job) v
+      within v = fits-iff job passed v .0
 
-      there : (o : Option (List ℕ)) → Cheapest (job .p) (job .extents) (job .weights) o → FormerlyChosen o
+      there : (o : Option (List ℕ)) → Cheapest (job .p) (mostFor job) (job .weights) o → FormerlyChosen o
       there none h = λ v f even. h v (within v f) even
       there (some u) h = (fits u (h .0), h .1, λ v f even. precedes-iff-formerly u v (fits u (h .0)) f .0 (h .2 v (within v f) even))
 
-      back : (o : Option (List ℕ)) → FormerlyChosen o → Cheapest (job .p) (job .extents) (job .weights) o
+      back : (o : Option (List ℕ)) → FormerlyChosen o → Cheapest (job .p) (mostFor job) (job .weights) o
       back none h = λ v f even. h v (fits v f) even
       back (some u) h = (within u (h .0), h .1, λ v f even. precedes-iff-formerly u v (h .0) (fits v f) .1 (h .2 v (fits v f) even))

@@ -1,12 +1,14 @@
 -- What the theory uses of cuts within `most`: there is one for each bound, none is 0 or above its bound, and cuts of which none is made larger,
--- and none 0, are still within. Fitting cuts are those within the extents: what is said of `Fits` follows from that law.
-use mathlib.Core.Path.{_≡_, refl, ap}
+-- and none 0, are still within. Fitting cuts are those within the most slabs of each dimension (`fits-iff-within`), so what is said of cuts within
+-- bounds holds of them.
+use mathlib.Core.Path.{_≡_, refl, ap, subst}
 use mathlib.Core.Logic.{_↔_}
 use mathlib.Core.List.{List, [], _∷_}
-use Prim.Native.Nat.{ℕ, zero, suc, _≤_, _<_}
-use native.Mathlib.Nat.{not-suc-le-zero, le-of-suc-le-suc, le-trans}
+use Prim.Native.Nat.{ℕ, zero, suc, _*_, _≤_, _<_}
+use native.Mathlib.Nat.{not-suc-le-zero, zero-lt-suc, le-of-suc-le-suc, le-trans, mul-one, mul-le-mul-left, le-div-iff-mul-le}
+use native.Mathlib.Omega.{arith}
 use lib.ListN.{length, getD}
-use Rattle.multipartition.specs.Cuts.{Within, Fits}
+use Rattle.multipartition.specs.Cuts.{Within, Fits, mostOf}
 use Rattle.multipartition.proofs.MixedRadix.{Positive}
 use Rattle.multipartition.proofs.Order.{AtMost}
 
@@ -41,14 +43,68 @@ within-of-atMost (n ∷ most) (b ∷ cuts) (c ∷ lower) h m z = (z .0, le-trans
 
 -- ---- cuts that fit
 
-pub fits-iff-within : (extents cuts : List ℕ) → Fits extents cuts ↔ Within extents cuts
-fits-iff-within extents cuts = ((λ h. h), λ h. h)
+-- as many thicknesses as extents, none of them 0
+abbrev pub Thick : List ℕ → List ℕ → Type 0
+Thick [] [] = Unit {0}
+Thick [] (t ∷ least) = ⊥
+Thick (n ∷ extents) [] = ⊥
+Thick (n ∷ extents) (t ∷ least) = (1 ≤ t) × Thick extents least
 
-pub fits-length : (extents cuts : List ℕ) → Fits extents cuts → length cuts ≡ length extents
-fits-length extents cuts fits = within-length extents cuts (fits-iff-within extents cuts .0 fits)
+pub thick-of-places : (extents least : List ℕ) → length least ≡ length extents → ((k : ℕ) → k < length least → 1 ≤ getD least k 0) → Thick extents least
+thick-of-places [] [] e h = tt
+thick-of-places [] (t ∷ least) e h = absurd (omega arith)
+thick-of-places (n ∷ extents) [] e h = absurd (omega arith)
+thick-of-places (n ∷ extents) (t ∷ least) e h = (h 0 (zero-lt-suc (length least)), thick-of-places extents least (omega arith) (λ k l. h (suc k) (omega arith)))
 
-pub fits-positive : (extents cuts : List ℕ) → Fits extents cuts → Positive cuts
-fits-positive extents cuts fits = within-positive extents cuts (fits-iff-within extents cuts .0 fits)
+pub length-mostOf : (extents least : List ℕ) → length least ≡ length extents → length (mostOf extents least) ≡ length extents
+unfolding mostOf
+length-mostOf [] least e = refl
+length-mostOf (n ∷ extents) [] e = absurd (omega arith)
+length-mostOf (n ∷ extents) (t ∷ least) e = ap suc (length-mostOf extents least (omega arith))
 
-pub fits-le-extent : (extents cuts : List ℕ) → Fits extents cuts → (k : ℕ) → k < length cuts → getD cuts k 0 ≤ getD extents k 0
-fits-le-extent extents cuts fits = within-le extents cuts (fits-iff-within extents cuts .0 fits)
+-- Cuts fit just if none is 0 or above the most slabs of its dimension: b · t ≤ n just if b ≤ n / t.
+pub fits-iff-within : (extents least cuts : List ℕ) → Thick extents least → Fits extents least cuts ↔ Within (mostOf extents least) cuts
+unfolding mostOf
+fits-iff-within [] [] [] thick = ((λ h. h), λ h. h)
+fits-iff-within [] [] (b ∷ cuts) thick = ((λ h. h), λ h. h)
+fits-iff-within [] (t ∷ least) cuts thick = absurd thick
+fits-iff-within (n ∷ extents) [] cuts thick = absurd thick
+fits-iff-within (n ∷ extents) (t ∷ least) [] thick = ((λ h. h), λ h. h)
+fits-iff-within (n ∷ extents) (t ∷ least) (b ∷ cuts) thick =
+    let here = le-div-iff-mul-le {k = t} {x = b} {y = n} (thick .0) in
+    let later = fits-iff-within extents least cuts (thick .1) in (
+      (λ h. (h .0, here .1 (h .1), later .0 (h .2))),
+      λ h. (h .0, here .0 (h .1), later .1 (h .2)),
+    )
+
+pub fits-length : (extents least cuts : List ℕ) → Fits extents least cuts → length cuts ≡ length extents
+fits-length [] [] [] h = refl
+fits-length [] [] (b ∷ cuts) h = absurd h
+fits-length [] (t ∷ least) cuts h = absurd h
+fits-length (n ∷ extents) [] cuts h = absurd h
+fits-length (n ∷ extents) (t ∷ least) [] h = absurd h
+fits-length (n ∷ extents) (t ∷ least) (b ∷ cuts) h = ap suc (fits-length extents least cuts (h .2))
+
+pub fits-positive : (extents least cuts : List ℕ) → Fits extents least cuts → Positive cuts
+unfolding Positive
+fits-positive [] [] [] h = tt
+fits-positive [] [] (b ∷ cuts) h = absurd h
+fits-positive [] (t ∷ least) cuts h = absurd h
+fits-positive (n ∷ extents) [] cuts h = absurd h
+fits-positive (n ∷ extents) (t ∷ least) [] h = absurd h
+fits-positive (n ∷ extents) (t ∷ least) (b ∷ cuts) h = (h .0, fits-positive extents least cuts (h .2))
+
+-- "bk times the least thickness of k is at most nk"
+pub fits-thickness : (extents least cuts : List ℕ) → Fits extents least cuts → (k : ℕ) → k < length cuts
+    → getD cuts k 0 * getD least k 0 ≤ getD extents k 0
+fits-thickness [] [] [] h k l = absurd (not-suc-le-zero l)
+fits-thickness [] [] (b ∷ cuts) h k l = absurd h
+fits-thickness [] (t ∷ least) cuts h k l = absurd h
+fits-thickness (n ∷ extents) [] cuts h k l = absurd h
+fits-thickness (n ∷ extents) (t ∷ least) [] h k l = absurd h
+fits-thickness (n ∷ extents) (t ∷ least) (b ∷ cuts) h zero l = h .1
+fits-thickness (n ∷ extents) (t ∷ least) (b ∷ cuts) h (suc k) l = fits-thickness extents least cuts (h .2) k (le-of-suc-le-suc l)
+
+-- a number times another that is not 0
+pub le-mul-of-pos : (b t n : ℕ) → 1 ≤ t → b * t ≤ n → b ≤ n
+le-mul-of-pos b t n pos l = le-trans (subst (λ (c : ℕ). c ≤ b * t) (mul-one b) (mul-le-mul-left b pos)) l

@@ -5,7 +5,7 @@ use mathlib.Core.Logic.{_↔_, _≢_}
 use mathlib.Core.Bool.{Bool, true, not, _&&_}
 use mathlib.Core.List.{List}
 use mathlib.Core.Option.{some}
-use Prim.Native.Nat.{ℕ, zero, _≤_, _<_}
+use Prim.Native.Nat.{ℕ, zero, _*_, _≤_, _<_}
 use native.Mathlib.Omega.{arith}
 use lib.Dec.{leb, ltb, eqb}
 use lib.ListN.{length, getD}
@@ -17,14 +17,14 @@ use Rattle.multipartition.specs.Owners.{ownerAt}
 use Rattle.multipartition.specs.Neighbours.{neighbourAt}
 use Rattle.multipartition.specs.Tiles.{Inside, oneStepOn}
 use Rattle.multipartition.specs.Jobs.{InRange, Passed, cheapestFor}
-use Rattle.multipartition.specs.Plans.{Job, Layout, layoutWith, tilesOf, between, dimensionOk, entryAt, rowOk, inShape, InShape}
+use Rattle.multipartition.specs.Plans.{Job, Layout, layoutWith, tilesOf, between, dimensionOk, leastOk, entryAt, rowOk, inShape, InShape}
 use Rattle.multipartition.proofs.Tests.{and-iff, all-iff, leb-iff, ltb-iff, eqb-iff, between-true-iff}
 use Rattle.multipartition.proofs.MixedRadix.{Positive}
 use Rattle.multipartition.proofs.Tiles.{positive-of-product}
 use Rattle.multipartition.proofs.Moduli.{length-moduli, moduli-positive, moduli-product}
 use Rattle.multipartition.proofs.Matrix.{matrix-entry-below}
 use Rattle.multipartition.proofs.Neighbours.{neighbour-owns, neighbour-returns, neighbour-injective}
-use Rattle.multipartition.proofs.Fitting.{fits-positive, fits-le-extent}
+use Rattle.multipartition.proofs.Fitting.{fits-positive, fits-thickness, le-mul-of-pos}
 use Rattle.multipartition.proofs.Minimal.{positive-at}
 use Rattle.multipartition.proofs.Chosen.{chosen-fits, chosen-length, chosen-even, chosen-cut-le, chosen-tiles-le}
 
@@ -42,6 +42,12 @@ dimension-iff extents cuts k =
 
     b : ℕ
     b = getD cuts k 0
+
+pub least-iff : (extents least cuts : List ℕ) (k : ℕ) → (leastOk extents least cuts k ≡ true)
+    ↔ ((1 ≤ getD least k 0) × (getD cuts k 0 * getD least k 0 ≤ getD extents k 0))
+least-iff extents least cuts k =
+    and-iff (leb 1 (getD least k 0)) (leb (getD cuts k 0 * getD least k 0) (getD extents k 0)) (leb-iff 1 (getD least k 0))
+    (leb-iff (getD cuts k 0 * getD least k 0) (getD extents k 0))
 
 row-iff : (d : ℕ) (moduli : List ℕ) (matrix : List (List ℕ)) (i : ℕ) → (rowOk d moduli matrix i ≡ true)
     ↔ ((1 ≤ getD moduli i 0) × ((j : ℕ) → j < d → entryAt matrix i j < getD moduli i 0))
@@ -65,31 +71,39 @@ in-shape-iff plan =
     (all-iff (plan .d) (rowOk (plan .d) (plan .moduli) (plan .matrix)) (row-iff (plan .d) (plan .moduli) (plan .matrix))) in
     let M : Bool = eqb (product (plan .moduli)) (plan .p) in
     let moduli = and-iff (D && P && C && T && R) M rows (eqb-iff (product (plan .moduli)) (plan .p)) in
-    let all = and-iff (D && P && C && T && R && M) (leb (plan .kind) 1) moduli (leb-iff (plan .kind) 1) in (
+    let K : Bool = leb (plan .kind) 1 in
+    let kinds = and-iff (D && P && C && T && R && M) K moduli (leb-iff (plan .kind) 1) in
+    let all = and-iff (D && P && C && T && R && M && K) (allBelow (plan .d) (leastOk (plan .extents) (plan .least) (plan .cuts))) kinds
+    (all-iff (plan .d) (leastOk (plan .extents) (plan .least) (plan .cuts)) (least-iff (plan .extents) (plan .least) (plan .cuts))) in (
       (λ e. let h = all .0 e in
           record {
-            d-range = h .0 .0 .0 .0 .0 .0;
-            p-range = h .0 .0 .0 .0 .0 .1;
-            extent-range = λ k l. h .0 .0 .0 .0 .1 k l .0 .0;
-            cut-range = λ k l. let cut = h .0 .0 .0 .0 .1 k l in (cut .0 .1 .0, cut .0 .1 .1, cut .1);
-            tiles-high = h .0 .0 .0 .1;
-            modulus-low = λ i l. h .0 .0 .1 i l .0;
-            moduli-product = h .0 .1;
-            entry-below = λ i j l m. h .0 .0 .1 i l .1 j m;
-            kind-high = h .1;
+            d-range = h .0 .0 .0 .0 .0 .0 .0;
+            p-range = h .0 .0 .0 .0 .0 .0 .1;
+            extent-range = λ k l. h .0 .0 .0 .0 .0 .1 k l .0 .0;
+            cut-range = λ k l. let cut = h .0 .0 .0 .0 .0 .1 k l in (cut .0 .1 .0, cut .0 .1 .1, cut .1);
+            tiles-high = h .0 .0 .0 .0 .1;
+            modulus-low = λ i l. h .0 .0 .0 .1 i l .0;
+            moduli-product = h .0 .0 .1;
+            entry-below = λ i j l m. h .0 .0 .0 .1 i l .1 j m;
+            kind-high = h .0 .1;
+            least-low = λ k l. h .1 k l .0;
+            least-fits = λ k l. h .1 k l .1;
           }),
       λ s. all .1 (
         (
           (
             (
-              ((s .d-range, s .p-range), λ k l. ((s .extent-range k l, (s .cut-range k l .0, s .cut-range k l .1)), s .cut-range k l .2)),
-              s .tiles-high,
+              (
+                ((s .d-range, s .p-range), λ k l. ((s .extent-range k l, (s .cut-range k l .0, s .cut-range k l .1)), s .cut-range k l .2)),
+                s .tiles-high,
+              ),
+              λ i l. (s .modulus-low i l, λ j m. s .entry-below i j l m),
             ),
-            λ i l. (s .modulus-low i l, λ j m. s .entry-below i j l m),
+            s .moduli-product,
           ),
-          s .moduli-product,
+          s .kind-high,
         ),
-        s .kind-high,
+        λ k l. (s .least-low k l, s .least-fits k l),
       ),
     )
 
@@ -136,27 +150,32 @@ layout-in-shape job cuts passed e =
       p-range = (range .p-low, range .p-high);
       extent-range = λ k l. (range .extent-low k (extent k l), range .extent-high k (extent k l));
       cut-range = λ k l. (
-        positive-at cuts (fits-positive (job .extents) cuts fits) k (inside k l),
-        fits-le-extent (job .extents) cuts fits k (inside k l),
-        chosen-cut-le job cuts e (range .p-low) (range .p-high) k (inside k l),
+        positive-at cuts (fits-positive (job .extents) (job .least) cuts fits) k (inside k l),
+        le-mul-of-pos (getD cuts k 0) (getD (job .least) k 0) (getD (job .extents) k 0) (thick k l) (fits-thickness (job .extents) (job .least) cuts fits k (inside k l)),
+        chosen-cut-le job passed cuts e k (inside k l),
       );
-      tiles-high = chosen-tiles-le job cuts e (range .p-low) (range .p-high);
+      tiles-high = chosen-tiles-le job passed cuts e;
       modulus-low = λ i l.
           positive-at (moduliOf (job .p) cuts) (moduli-positive (job .p) cuts (range .p-low)) i
           (subst⁻¹ (λ (n : ℕ). i < n) (length-moduli (job .p) cuts) (inside i l));
-      moduli-product = moduli-product (job .p) cuts (omega (arith, same-length, range .d-low)) (chosen-even job cuts e);
+      moduli-product = moduli-product (job .p) cuts (omega (arith, same-length, range .d-low)) (chosen-even job passed cuts e);
       entry-below = λ i j l m. matrix-entry-below (job .p) cuts (range .p-low) i j (inside i l);
       kind-high = omega arith;
+      least-low = thick;
+      least-fits = λ k l. fits-thickness (job .extents) (job .least) cuts fits k (inside k l);
     })
   where
     range : InRange (job .p) (job .extents)
     range = passed .range
 
-    fits : Fits (job .extents) cuts
-    fits = chosen-fits job cuts e
+    fits : Fits (job .extents) (job .least) cuts
+    fits = chosen-fits job passed cuts e
+
+    thick : (k : ℕ) → k < job .d → 1 ≤ getD (job .least) k 0
+    thick k l = passed .least-low k (subst⁻¹ (λ (n : ℕ). k < n) (passed .least-many) l)
 
     same-length : length cuts ≡ length (job .extents)
-    same-length = chosen-length job cuts e
+    same-length = chosen-length job passed cuts e
 
     extent : (k : ℕ) → k < job .d → k < length (job .extents)
     extent k l = subst⁻¹ (λ (n : ℕ). k < n) (passed .extents-many) l

@@ -1,13 +1,16 @@
--- The first number that passes a test.
+-- The first number that passes a test, and the first of a list that fails one.
 use mathlib.Core.Path.{_≡_, refl, sym, ap, _∙_}
-use mathlib.Core.Logic.{⊎-elim}
+use mathlib.Core.Logic.{⊎-elim, _↔_}
 use mathlib.Core.Bool.{Bool, true, false, cond}
+use mathlib.Core.List.{List, [], _∷_}
 use Prim.Native.Nat.{ℕ, zero, suc, _+_, _≤_, _<_}
-use native.Mathlib.Nat.{le-refl, eq-or-lt-of-le}
+use native.Mathlib.Nat.{not-suc-le-zero, zero-lt-suc, le-of-suc-le-suc, le-refl, eq-or-lt-of-le}
 use native.Mathlib.Numerals.{add-one}
 use native.Mathlib.Omega.{arith}
-use Rattle.multipartition.specs.Lists.{firstSuch}
-use Rattle.multipartition.proofs.Tests.{false-not-true}
+use lib.ListN.{length, getD, drop, drop-of-length-le}
+use lib.Seq.{drop-cons}
+use Rattle.multipartition.specs.Lists.{firstSuch, firstFailing}
+use Rattle.multipartition.proofs.Tests.{false-not-true, by-cond}
 
 -- a number that does not pass is passed over
 pub first-such-next : (test : ℕ → Bool) (from count : ℕ) → test from ≡ false → firstSuch test from (suc count) ≡ firstSuch test (from + 1) count
@@ -46,3 +49,54 @@ first-such-only test from (suc count) r only low high e = go (test from) refl (�
     go true f later = only from f
     go false f later =
         ⊎-elim (λ (q : from ≡ r). absurd (false-not-true (sym f ∙ ap test q ∙ e))) (λ l. later l) (eq-or-lt-of-le low)
+
+-- ---- the first of a list that fails
+
+module _ (test : ℕ → Bool) where
+  -- none fails, if the place of the first is 0
+  passing-of-firstFailing : (i : ℕ) (xs : List ℕ) → firstFailing test (suc i) xs ≡ 0 → (k : ℕ) → k < length xs → test (getD xs k 0) ≡ true
+  unfolding firstFailing
+  passing-of-firstFailing i [] e k l = absurd (not-suc-le-zero l)
+  passing-of-firstFailing i (x ∷ xs) e k l = go (test x) refl e (passing-of-firstFailing (suc i) xs) k l
+    where
+      go : (t : Bool) → test x ≡ t → cond t (firstFailing test (suc (suc i)) xs) (suc i) ≡ 0
+          → (firstFailing test (suc (suc i)) xs ≡ 0 → (k : ℕ) → k < length xs → test (getD xs k 0) ≡ true)
+          → (k : ℕ) → k < length (x ∷ xs) → test (getD (x ∷ xs) k 0) ≡ true
+      go true f e later zero l = f
+      go true f e later (suc k) l = later e k (le-of-suc-le-suc l)
+      go false f e later k l = absurd (omega arith)
+
+  firstFailing-of-passing : (i : ℕ) (xs : List ℕ) → ((k : ℕ) → k < length xs → test (getD xs k 0) ≡ true) → firstFailing test i xs ≡ 0
+  unfolding firstFailing
+  firstFailing-of-passing i [] h = refl
+  firstFailing-of-passing i (x ∷ xs) h =
+      rw (h 0 (zero-lt-suc (length xs))) (firstFailing-of-passing (suc i) xs (λ k l. h (suc k) (omega arith)))
+
+  pub firstFailing-zero-iff : {P : ℕ → Type 0} → ((n : ℕ) → (test n ≡ true) ↔ P n) → (xs : List ℕ)
+      → (firstFailing test 1 xs ≡ 0) ↔ ((k : ℕ) → k < length xs → P (getD xs k 0))
+  firstFailing-zero-iff decides xs = (
+    (λ e k l. decides (getD xs k 0) .0 (passing-of-firstFailing 0 xs e k l)),
+    λ h. firstFailing-of-passing 1 xs (λ k l. decides (getD xs k 0) .1 (h k l)),
+  )
+
+  -- it is one of them
+  pub firstFailing-le : (k : ℕ) (xs : List ℕ) → firstFailing test k xs ≤ k + length xs
+  unfolding firstFailing
+  firstFailing-le k [] = omega arith
+  firstFailing-le k (x ∷ xs) =
+      let later = firstFailing-le (suc k) xs in
+      by-cond (λ (place : ℕ). place ≤ k + suc (length xs)) (test x) (firstFailing test (suc k) xs) k (λ e. omega arith) (λ e. omega arith)
+
+  -- looked for from the front, k numbers on
+  module _ (i : ℕ) (xs : List ℕ) (k : ℕ) where
+    pub failing-here : k < length xs → test (getD xs k 0) ≡ false → firstFailing test i (drop k xs) ≡ i
+    unfolding firstFailing
+    failing-here l e = ap (firstFailing test i) (drop-cons xs k 0 l) ∙ ap (λ t. cond t (firstFailing test (suc i) (drop (suc k) xs)) i) e
+
+    pub failing-later : k < length xs → test (getD xs k 0) ≡ true → firstFailing test i (drop k xs) ≡ firstFailing test (suc i) (drop (suc k) xs)
+    unfolding firstFailing
+    failing-later l e = ap (firstFailing test i) (drop-cons xs k 0 l) ∙ ap (λ t. cond t (firstFailing test (suc i) (drop (suc k) xs)) i) e
+
+    pub failing-none : length xs ≤ k → firstFailing test i (drop k xs) ≡ 0
+    unfolding firstFailing
+    failing-none l = ap (firstFailing test i) (drop-of-length-le xs {i = k} l)

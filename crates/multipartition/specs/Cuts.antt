@@ -1,10 +1,11 @@
--- Choosing the cuts (document 01, "Choosing the cuts"; document 02, request a, for the cost, and request f, for what decides among equal costs).
+-- Choosing the cuts (document 01, "Choosing the cuts"; document 02, request a, for the cost, request f, for what decides among equal costs, and
+-- request g, for which cuts fit).
 use mathlib.Core.Path.{_≡_}
 use mathlib.Core.Logic.{_⊎_}
 use mathlib.Core.Bool.{Bool, true, false, cond, _&&_, _||_}
 use mathlib.Core.List.{List, [], _∷_}
 use mathlib.Core.Option.{Option, none, some}
-use Prim.Native.Nat.{ℕ, _+_, _-_, _*_, _%_, _≤_, _<_, _∣_}
+use Prim.Native.Nat.{ℕ, _+_, _-_, _*_, _/_, _%_, _≤_, _<_, _∣_}
 use lib.Dec.{ltb, eqb}
 use lib.ListN.{length}
 use Rattle.numbers.specs.Products.{product, without}
@@ -30,9 +31,21 @@ unfoldable pub cutsWithin : List ℕ → List (List ℕ)
 cutsWithin [] = [] ∷ []
 cutsWithin (n ∷ most) = startingWith 1 n (cutsWithin most)
 
--- "They fit if 1 ≤ bk ≤ nk for every k."
-abbrev pub Fits : List ℕ → List ℕ → Type 0
-Fits extents = Within extents
+-- Document 02, request g: "Cuts fit only if bk times the least thickness of k is at most nk". As before, no cut is 0. The lists are the extents, the
+-- least thicknesses and the cuts.
+abbrev pub Fits : List ℕ → List ℕ → List ℕ → Type 0
+Fits [] [] [] = Unit {0}
+Fits [] [] (b ∷ cuts) = ⊥
+Fits [] (t ∷ least) cuts = ⊥
+Fits (n ∷ extents) [] cuts = ⊥
+Fits (n ∷ extents) (t ∷ least) [] = ⊥
+Fits (n ∷ extents) (t ∷ least) (b ∷ cuts) = (1 ≤ b) × (b * t ≤ n) × Fits extents least cuts
+
+-- the most slabs that each dimension may have: bk times tk is at most nk just if bk is at most nk / tk, rounded down
+unfoldable pub mostOf : List ℕ → List ℕ → List ℕ
+mostOf [] least = []
+mostOf (n ∷ extents) [] = []
+mostOf (n ∷ extents) (t ∷ least) = n / t ∷ mostOf extents least
 
 -- Document 02, request a: "Each dimension now costs (bk − 1) · wk." Here 0 - 1 is 0, but no cut that fits is 0.
 unfoldable pub cutCost : ℕ → ℕ → ℕ
@@ -88,5 +101,5 @@ unfoldable pub cheapestWithin : ℕ → List ℕ → List ℕ → Option (List �
 cheapestWithin p most weights = chosen weights (those (isEven p) (cutsWithin most))
 
 -- "The planner answers with the even, fitting cuts of least cost .. The definition ranges over all cut vectors."
-abbrev pub cheapest : ℕ → List ℕ → List ℕ → Option (List ℕ)
-cheapest p extents weights = cheapestWithin p extents weights
+abbrev pub cheapest : ℕ → List ℕ → List ℕ → List ℕ → Option (List ℕ)
+cheapest p extents least weights = cheapestWithin p (mostOf extents least) weights

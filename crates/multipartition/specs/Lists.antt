@@ -32,6 +32,11 @@ unfoldable pub firstSuch : (ℕ → Bool) → ℕ → ℕ → ℕ
 firstSuch test from zero = from
 firstSuch test from (suc count) = cond (test from) from (firstSuch test (suc from) count)
 
+-- the place of the first number of a list that fails the test, counted on from k; 0 if none does
+unfoldable pub firstFailing : (ℕ → Bool) → ℕ → List ℕ → ℕ
+firstFailing test k [] = 0
+firstFailing test k (x ∷ xs) = cond (test x) (firstFailing test (suc k) xs) k
+
 -- f from, f (from + 1), ..: n of them
 unfoldable pub listOf : ℕ → ℕ → (ℕ → ℕ) → List ℕ
 listOf from zero f = []

@@ -18,9 +18,9 @@ pub record RivalAmong (p : ℕ) (Class : List ℕ → Type 0) : Type 0 where
   pub owner : List ℕ → ℕ
   pub below : (position : List ℕ) → Inside cuts position → owner position < p
 
--- "A rival is any fitting cuts" with such owners.
+-- "A rival is any fitting cuts" with such owners. Document 02, request g: "Ours and the rival of demand 3 are given the same thicknesses".
 abbrev pub Rival : Job → Type 0
-Rival job = RivalAmong (job .p) (Fits (job .extents))
+Rival job = RivalAmong (job .p) (Fits (job .extents) (job .least))
 
 -- how many tiles of slab s of dimension k the processor q owns
 unfoldable pub held : List ℕ → (List ℕ → ℕ) → ℕ → ℕ → ℕ → ℕ

@@ -1,6 +1,6 @@
 -- The starred grids of document 01, "Grids to try", with the figures that its table names. Document 02, request a: "Every cost in document 01 drops by
 -- the sum of its weights". Of request e, five stages of the chains of 4 on 8 8 8. Of request f, "4 processors in three roomy dimensions" with "all
--- weights zero": "That job becomes 2 2 2."
+-- weights zero": "That job becomes 2 2 2." Of request g, "With p = 2 and thickness 3 both ways, 6 6 is cut 2 2 and 6 5 gives 5", and its refusals.
 use mathlib.Core.Bool.{true}
 use mathlib.Core.List.{List, [], _∷_, map}
 use mathlib.Core.Option.{Option, some}
@@ -53,22 +53,25 @@ pub record Grid : Type 0 where
   pub p : ℕ
   pub extents : List ℕ
   pub weights : List ℕ
+  -- the least thicknesses given, none for 1 in every dimension
+  pub least : List ℕ
   pub answer : List Figure
 
 -- the figures of a line as the definitions have them
 abbrev pub computed : Grid → List Figure
-computed grid = map (figureOf (planAnswer (jobWith (grid .p) (length (grid .extents)) (grid .extents) (grid .weights)))) (grid .answer)
+computed grid = map (figureOf (planAnswer (jobWith (grid .p) (length (grid .extents)) (grid .extents) (grid .weights) (grid .least)))) (grid .answer)
 
--- the starred lines, and that of request f
+-- the starred lines, and those of requests f and g
 abbrev pub starred : List Grid
 starred =
-    record { p = 1; extents = 1 ∷ 1 ∷ []; weights = 5 ∷ 7 ∷ []; answer = cuts (1 ∷ 1 ∷ []) ∷ cost 0 ∷ [] }
-    ∷ record { p = 2; extents = 2 ∷ 2 ∷ []; weights = 0 ∷ 0 ∷ []; answer = cuts (2 ∷ 2 ∷ []) ∷ cost 0 ∷ row 2 (1 ∷ 1 ∷ []) ∷ [] }
-    ∷ record { p = 2; extents = 1 ∷ 9 ∷ []; weights = 1 ∷ 1 ∷ []; answer = turned-down 5 0 ∷ [] }
+    record { p = 1; extents = 1 ∷ 1 ∷ []; weights = 5 ∷ 7 ∷ []; least = []; answer = cuts (1 ∷ 1 ∷ []) ∷ cost 0 ∷ [] }
+    ∷ record { p = 2; extents = 2 ∷ 2 ∷ []; weights = 0 ∷ 0 ∷ []; least = []; answer = cuts (2 ∷ 2 ∷ []) ∷ cost 0 ∷ row 2 (1 ∷ 1 ∷ []) ∷ [] }
+    ∷ record { p = 2; extents = 1 ∷ 9 ∷ []; weights = 1 ∷ 1 ∷ []; least = []; answer = turned-down 5 0 ∷ [] }
     ∷ record {
       p = 4;
       extents = 8 ∷ 8 ∷ 8 ∷ [];
       weights = 1 ∷ 1 ∷ 1 ∷ [];
+      least = [];
       answer =
           cuts (2 ∷ 2 ∷ 2 ∷ [])
           ∷ cost 3
@@ -88,31 +91,40 @@ starred =
           ∷ stage 0 (replicate 8 7) (1 ∷ 2 ∷ 4 ∷ 3 ∷ []) (8 ∷ 7 ∷ 6 ∷ 5 ∷ 0 ∷ 0 ∷ 0 ∷ 0 ∷ [])
           ∷ [];
     }
-    ∷ record { p = 4; extents = 4 ∷ 4 ∷ 4 ∷ []; weights = 0 ∷ 0 ∷ 0 ∷ []; answer = cuts (2 ∷ 2 ∷ 2 ∷ []) ∷ cost 0 ∷ [] }
-    ∷ record { p = 4; extents = 1 ∷ 3 ∷ 9 ∷ []; weights = 1 ∷ 1 ∷ 1 ∷ []; answer = turned-down 5 0 ∷ [] }
+    ∷ record { p = 4; extents = 4 ∷ 4 ∷ 4 ∷ []; weights = 0 ∷ 0 ∷ 0 ∷ []; least = []; answer = cuts (2 ∷ 2 ∷ 2 ∷ []) ∷ cost 0 ∷ [] }
+    ∷ record { p = 4; extents = 1 ∷ 3 ∷ 9 ∷ []; weights = 1 ∷ 1 ∷ 1 ∷ []; least = []; answer = turned-down 5 0 ∷ [] }
     ∷ record {
       p = 5;
       extents = 4 ∷ 9 ∷ 9 ∷ [];
       weights = 1 ∷ 1 ∷ 1 ∷ [];
+      least = [];
       answer = cuts (1 ∷ 5 ∷ 5 ∷ []) ∷ cost 8 ∷ row 3 (0 ∷ 4 ∷ 1 ∷ []) ∷ [];
     }
     ∷ record {
       p = 6;
       extents = 9 ∷ 9 ∷ 9 ∷ [];
       weights = 1 ∷ 1 ∷ 1 ∷ [];
+      least = [];
       answer = cuts (2 ∷ 3 ∷ 6 ∷ []) ∷ cost 8 ∷ moduli (1 ∷ 1 ∷ 6 ∷ []) ∷ row 3 (5 ∷ 4 ∷ 1 ∷ []) ∷ [];
     }
-    ∷ record { p = 6; extents = 1 ∷ 9 ∷ 9 ∷ []; weights = 1 ∷ 1 ∷ 1 ∷ []; answer = cuts (1 ∷ 6 ∷ 6 ∷ []) ∷ cost 10 ∷ [] }
+    ∷ record { p = 6; extents = 1 ∷ 9 ∷ 9 ∷ []; weights = 1 ∷ 1 ∷ 1 ∷ []; least = []; answer = cuts (1 ∷ 6 ∷ 6 ∷ []) ∷ cost 10 ∷ [] }
     ∷ record {
       p = 6;
       extents = 9 ∷ 9 ∷ 9 ∷ [];
       weights = 1 ∷ 1 ∷ 100 ∷ [];
+      least = [];
       answer = cuts (6 ∷ 6 ∷ 1 ∷ []) ∷ cost 10 ∷ moduli (1 ∷ 6 ∷ 1 ∷ []) ∷ [];
     }
     ∷ record {
       p = 8;
       extents = 9 ∷ 9 ∷ 9 ∷ [];
       weights = 1 ∷ 1 ∷ 1 ∷ [];
+      least = [];
       answer = cuts (2 ∷ 4 ∷ 4 ∷ []) ∷ cost 7 ∷ moduli (1 ∷ 2 ∷ 4 ∷ []) ∷ row 3 (0 ∷ 3 ∷ 1 ∷ []) ∷ [];
     }
+    ∷ record { p = 2; extents = 6 ∷ 6 ∷ []; weights = 1 ∷ 1 ∷ []; least = 3 ∷ 3 ∷ []; answer = cuts (2 ∷ 2 ∷ []) ∷ cost 2 ∷ [] }
+    ∷ record { p = 2; extents = 6 ∷ 5 ∷ []; weights = 1 ∷ 1 ∷ []; least = 3 ∷ 3 ∷ []; answer = turned-down 5 0 ∷ [] }
+    ∷ record { p = 2; extents = 6 ∷ 6 ∷ []; weights = 1 ∷ 1 ∷ []; least = 3 ∷ 0 ∷ []; answer = turned-down 13 2 ∷ [] }
+    ∷ record { p = 2; extents = 6 ∷ 0 ∷ []; weights = 1 ∷ 1 ∷ []; least = 0 ∷ 3 ∷ []; answer = turned-down 4 2 ∷ [] }
+    ∷ record { p = 2; extents = 6 ∷ 6 ∷ []; weights = 1 ∷ 1 ∷ []; least = 3 ∷ []; answer = turned-down 3 0 ∷ [] }
     ∷ []
