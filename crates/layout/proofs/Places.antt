@@ -43,6 +43,7 @@ pub record Arrays (plan : Plan) : Type 0 where
   pub cuts-places : length (plan .cuts) ≡ 5
   pub moduli-places : length (plan .moduli) ≡ 5
   pub matrix-places : length (plan .matrix) ≡ 25
+  pub least-places : length (plan .least) ≡ 5
 
 -- every plan by value has a layout of d numbers a list, which "in shape" does not say of a layout
 pub layout-sized : (plan : Plan) → Arrays plan → plan .d ≤ 5 → Sized (layoutOf plan)
@@ -52,6 +53,7 @@ layout-sized plan a few = record {
   extents-length = length-take-le (plan .d) (plan .extents) (omega (arith, a .extents-places));
   weights-length = length-take-le (plan .d) (plan .weights) (omega (arith, a .weights-places));
   cuts-length = length-take-le (plan .d) (plan .cuts) (omega (arith, a .cuts-places));
+  least-length = length-take-le (plan .d) (plan .least) (omega (arith, a .least-places));
   moduli-length = length-take-le (plan .d) (plan .moduli) (omega (arith, a .moduli-places));
   matrix-length = length-rows (plan .d) 0 (plan .d) (plan .matrix);
   row-length = λ i l. rw (row-at (plan .d) (plan .matrix) i l)
@@ -77,6 +79,10 @@ extent-at plan k h = getD-take (plan .d) (plan .extents) k 0 h
 pub cut-at : (plan : Plan) (k : ℕ) → k < plan .d → getD (layoutOf plan .cuts) k 0 ≡ getD (plan .cuts) k 0
 unfolding layoutOf
 cut-at plan k h = getD-take (plan .d) (plan .cuts) k 0 h
+
+pub least-at : (plan : Plan) (k : ℕ) → k < plan .d → getD (layoutOf plan .least) k 0 ≡ getD (plan .least) k 0
+unfolding layoutOf
+least-at plan k h = getD-take (plan .d) (plan .least) k 0 h
 
 pub modulus-at : (plan : Plan) (i : ℕ) → i < plan .d → getD (layoutOf plan .moduli) i 0 ≡ getD (plan .moduli) i 0
 unfolding layoutOf

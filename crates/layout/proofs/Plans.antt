@@ -6,6 +6,7 @@ use native.Mathlib.Omega.{arith}
 use lib.ListN.{length, getD, take, drop, replicate, length-append}
 use lib.Seq.{take-take, take-at, drop-at, take-append-le, take-append-add, drop-drop, length-take-le}
 use Rattle.multipartition.specs.Plans.{Job, Layout, layoutWith}
+use Rattle.multipartition.specs.Jobs.{Passed}
 use Rattle.multipartition.proofs.Moduli.{length-moduli}
 use Rattle.multipartition.proofs.Matrix.{length-matrix, length-matrix-row}
 use Rattle.layout.specs.Plans.{rowsFrom, layoutOf, five, flat, planOf}
@@ -59,19 +60,23 @@ layout-of-plan layout s =
       take-five (layout .d) (layout .extents) (s .few) (s .extents-length),
       take-five (layout .d) (layout .weights) (s .few) (s .weights-length),
       take-five (layout .d) (layout .cuts) (s .few) (s .cuts-length),
+      take-five (layout .d) (layout .least) (s .few) (s .least-length),
       take-five (layout .d) (layout .moduli) (s .few) (s .moduli-length),
       matrix-of-flat (layout .d) (layout .matrix) (s .few) (s .matrix-length) (s .row-length),
     )
 
--- the planner's layout, with an extent, a weight and a cut for each dimension
-pub layout-with-sized : (job : Job) (cuts : List ℕ) → job .d ≤ 5 → length (job .extents) ≡ job .d → length (job .weights) ≡ job .d
-    → length cuts ≡ job .d → Sized (layoutWith job cuts)
-layout-with-sized job cuts few extents-many weights-many cuts-many = record {
-  few = few;
-  extents-length = extents-many;
-  weights-length = weights-many;
+-- the planner's layout of a job in range, with a cut for each dimension
+pub layout-with-sized : (job : Job) (cuts : List ℕ) → Passed job → length cuts ≡ length (job .extents) → Sized (layoutWith job cuts)
+layout-with-sized job cuts passed same-length = record {
+  few = omega (arith, passed .range .d-high, passed .extents-many);
+  extents-length = passed .extents-many;
+  weights-length = passed .weights-many;
   cuts-length = cuts-many;
+  least-length = passed .least-many;
   moduli-length = length-moduli (job .p) cuts ∙ cuts-many;
   matrix-length = length-matrix (job .p) cuts ∙ cuts-many;
   row-length = λ i l. length-matrix-row (job .p) cuts i (omega (arith, cuts-many)) ∙ cuts-many;
 }
+  where
+    cuts-many : length cuts ≡ job .d
+    cuts-many = same-length ∙ passed .extents-many

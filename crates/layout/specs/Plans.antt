@@ -22,6 +22,7 @@ layoutOf plan = record {
   moduli = take (plan .d) (plan .moduli);
   matrix = rowsFrom (plan .d) 0 (plan .d) (plan .matrix);
   kind = plan .kind;
+  least = take (plan .d) (plan .least);
 }
 
 -- a list with zeros after it, of five places
@@ -45,6 +46,7 @@ planOf layout = record {
   moduli = five (layout .moduli);
   matrix = take 25 (flat (layout .matrix) ++ replicate 25 0);
   kind = layout .kind;
+  least = five (layout .least);
 }
 
 -- "every other part of the answer is zero"
@@ -59,4 +61,5 @@ noPlan = record {
   moduli = replicate 5 0;
   matrix = replicate 25 0;
   kind = 0;
+  least = replicate 5 0;
 }

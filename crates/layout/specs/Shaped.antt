@@ -7,7 +7,7 @@ use lib.Dec.{ltb}
 use lib.ListN.{length, getD, take}
 use Rattle.numbers.specs.Products.{product}
 use Rattle.multipartition.specs.Lists.{allBelow}
-use Rattle.multipartition.specs.Plans.{between, dimensionOk}
+use Rattle.multipartition.specs.Plans.{between, dimensionOk, leastOk}
 use Rattle.layout.specs.declared.Plan.{Plan}
 
 -- the entry of row i and column j of a plan's matrix: the rows stand five places apart
@@ -18,9 +18,9 @@ entryOf matrix i j = getD matrix (i * 5 + j) 0
 abbrev pub rowFits : ℕ → List ℕ → List ℕ → ℕ → Bool
 rowFits d moduli matrix i = between 1 4096 (getD moduli i 0) && allBelow d (λ j. ltb (entryOf matrix i j) (getD moduli i 0))
 
--- extent and cut of dimension k + 1 are in range, and so is row k
-abbrev pub placeFits : ℕ → List ℕ → List ℕ → List ℕ → List ℕ → ℕ → Bool
-placeFits d extents cuts moduli matrix k = dimensionOk extents cuts k && rowFits d moduli matrix k
+-- extent, cut and least thickness of dimension k + 1 are in range, and so is row k
+abbrev pub placeFits : ℕ → List ℕ → List ℕ → List ℕ → List ℕ → List ℕ → ℕ → Bool
+placeFits d extents cuts moduli matrix least k = dimensionOk extents cuts k && leastOk extents least cuts k && rowFits d moduli matrix k
 
 -- the first d of the numbers, at most five, are from 1 to 4,096
 pub record Factors (d : ℕ) (numbers : List ℕ) : Type 0 where
@@ -48,6 +48,8 @@ pub record Shaped (plan : Plan) : Type 0 where
   pub cut-low : (k : ℕ) → k < plan .d → 1 ≤ getD (plan .cuts) k 0
   pub cut-high : (k : ℕ) → k < plan .d → getD (plan .cuts) k 0 ≤ 4096
   pub cut-fits : (k : ℕ) → k < plan .d → getD (plan .cuts) k 0 ≤ getD (plan .extents) k 0
+  pub least-low : (k : ℕ) → k < plan .d → 1 ≤ getD (plan .least) k 0
+  pub least-fits : (k : ℕ) → k < plan .d → getD (plan .cuts) k 0 * getD (plan .least) k 0 ≤ getD (plan .extents) k 0
   pub tiles-high : product (take (plan .d) (plan .cuts)) ≤ 16777216
   pub modulus-low : (i : ℕ) → i < plan .d → 1 ≤ getD (plan .moduli) i 0
   pub modulus-high : (i : ℕ) → i < plan .d → getD (plan .moduli) i 0 ≤ plan .p

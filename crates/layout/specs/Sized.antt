@@ -11,6 +11,7 @@ pub record Sized (layout : Layout) : Type 0 where
   pub extents-length : length (layout .extents) ≡ layout .d
   pub weights-length : length (layout .weights) ≡ layout .d
   pub cuts-length : length (layout .cuts) ≡ layout .d
+  pub least-length : length (layout .least) ≡ layout .d
   pub moduli-length : length (layout .moduli) ≡ layout .d
   pub matrix-length : length (layout .matrix) ≡ layout .d
   pub row-length : (i : ℕ) → i < layout .d → length (getD (layout .matrix) i []) ≡ layout .d

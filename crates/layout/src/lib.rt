@@ -1,7 +1,7 @@
 // A plan by value, and the check that it is in shape.
 ghost use mathlib.Core.Bool.{_&&_};
 ghost use mathlib.Core.Path.{_≡_};
-ghost use Prim.Native.Nat.{_<_, _≤_};
+ghost use Prim.Native.Nat.{_*_, _<_, _≤_};
 ghost use lib.Dec.{leb, ltb};
 ghost use lib.ListN.{length, take};
 ghost use Rattle.numbers.specs.Products.{product};
@@ -12,7 +12,8 @@ ghost use Rattle.layout.specs.Shaped.{Ranges, entryOf, placeFits, Factor
 ghost use Rattle.layout.specs.Lent.{Lent, isLent, lentPlan, planOver};
 
 // Lists hold dimension k at place k - 1, and row i of the matrix stands at places 5 * (i - 1) on. Places past d are zero in a plan that a call
-// answers, and are never read. The kind is 0 for the planner's plans and 1 for diagonal ones.
+// answers, and are never read. The kind is 0 for the planner's plans and 1 for diagonal ones. No slab of a dimension has fewer elements than its least
+// thickness.
 pub struct Plan {
     pub d: usize,
     pub p: u32,
@@ -23,6 +24,7 @@ pub struct Plan {
     pub moduli: [u32; 5],
     pub matrix: [u32; 25],
     pub kind: u32,
+    pub least: [u32; 5],
 }
 
 // The plan of zeros.
@@ -39,6 +41,7 @@ pub fn no_plan() -> Plan
         moduli: [0; 5],
         matrix: [0; 25],
         kind: 0,
+        least: [0; 5],
     }
 }
 
@@ -47,6 +50,13 @@ fn dimension_ok(extent: u32, cut: u32) -> bool
     ensures { λ r. ⌜ r ≡ (between 1 1000000 extent && between 1 extent cut && leb cut 4096) ⌝ }
 {
     ((1 <= extent) & (extent <= 1000000)) & ((1 <= cut) & (cut <= extent)) & (cut <= 4096)
+}
+
+// Whether a least thickness is not 0, and its cut times it not above its extent.
+fn least_ok(extent: u32, least: u32, cut: u32) -> bool
+    ensures { λ r. ⌜ r ≡ (leb 1 least && leb (cut * least) extent) ⌝ }
+{
+    (1 <= least) & (cut as u64 * least as u64 <= extent as u64)
 }
 
 // Whether the first d entries of row i are below m.
@@ -63,7 +73,7 @@ fn entries_below(d: usize, i: usize, m: u32, matrix: &[u32]) -> bool
     ok
 }
 
-// Whether extent, cut, modulus and row of dimension k + 1 are in range. A modulus above 4,096 multiplies to no p with others that are not 0.
+// Whether extent, cut, least thickness, modulus and row of dimension k + 1 are in range. A modulus above 4,096 multiplies to no p with others that are not 0.
 fn place_ok<'a>(
     d: usize,
     k: usize,
@@ -71,12 +81,17 @@ fn place_ok<'a>(
     cuts: &'a [u32],
     moduli: &'a [u32],
     matrix: &'a [u32],
+    least: &'a [u32],
 ) -> bool
-    requires { ⌜ (k < d) × (d ≤ 5) × (Lent (now extents) (now cuts) (now moduli) (now matrix)) ⌝ }
-    ensures { λ r. ⌜ r ≡ placeFits d (now (extents .entry)) (now (cuts .entry)) (now (moduli .entry)) (now (matrix .entry)) k ⌝ }
+    requires { ⌜ (k < d) × (d ≤ 5) × (Lent (now extents) (now cuts) (now moduli) (now matrix) (now least)) ⌝ }
+    ensures { λ r. ⌜ r ≡ placeFits d (now (extents .entry)) (now (cuts .entry)) (now (moduli .entry)) (now (matrix .entry)) (now (least .entry)) k ⌝ }
 {
+    let extent = extents[k];
+    let cut = cuts[k];
     let m = moduli[k];
-    dimension_ok(extents[k], cuts[k]) & (((1 <= m) & (m <= 4096)) & entries_below(d, k, m, matrix))
+    dimension_ok(extent, cut)
+        & least_ok(extent, least[k], cut)
+        & (((1 <= m) & (m <= 4096)) & entries_below(d, k, m, matrix))
 }
 
 // Whether every dimension is in range, there are at most 16,777,216 tiles, and the moduli multiply to p.
@@ -88,14 +103,15 @@ fn places_ok<'a>(
     cuts: &'a [u32],
     moduli: &'a [u32],
     matrix: &'a [u32],
+    least: &'a [u32],
 ) -> bool
-    requires { ⌜ (Ranges d p kind) × (Lent (now extents) (now cuts) (now moduli) (now matrix)) ⌝ }
-    ensures { λ r. ⌜ r ≡ inShape (layoutOf (lentPlan d p kind (now (extents .entry)) (now (cuts .entry)) (now (moduli .entry)) (now (matrix .entry)))) ⌝ }
+    requires { ⌜ (Ranges d p kind) × (Lent (now extents) (now cuts) (now moduli) (now matrix) (now least)) ⌝ }
+    ensures { λ r. ⌜ r ≡ inShape (layoutOf (lentPlan d p kind (now (extents .entry)) (now (cuts .entry)) (now (moduli .entry)) (now (matrix .entry)) (now (least .entry)))) ⌝ }
 {
     let mut tiles: u64 = 1;
     let mut processors: u64 = 1;
     for k in 0..d {
-        if !place_ok(d, k, extents, cuts, moduli, matrix) {
+        if !place_ok(d, k, extents, cuts, moduli, matrix, least) {
             return false;
         }
         tiles = tiles * wide(cuts[k]);
@@ -110,10 +126,11 @@ fn have_places<'a>(
     cuts: &'a [u32],
     moduli: &'a [u32],
     matrix: &'a [u32],
+    least: &'a [u32],
 ) -> bool
-    ensures { λ r. ⌜ r ≡ isLent (now (extents .entry)) (now (cuts .entry)) (now (moduli .entry)) (now (matrix .entry)) ⌝ }
+    ensures { λ r. ⌜ r ≡ isLent (now (extents .entry)) (now (cuts .entry)) (now (moduli .entry)) (now (matrix .entry)) (now (least .entry)) ⌝ }
 {
-    (extents.len() == 5) & (cuts.len() == 5) & (moduli.len() == 5) & (matrix.len() == 25)
+    (extents.len() == 5) & (cuts.len() == 5) & (moduli.len() == 5) & (matrix.len() == 25) & (least.len() == 5)
 }
 
 // Whether the plan of lists, lent, is in shape: that of lists of other lengths than a plan's is not.
@@ -125,10 +142,11 @@ pub fn shape_ok<'a>(
     cuts: &'a [u32],
     moduli: &'a [u32],
     matrix: &'a [u32],
+    least: &'a [u32],
 ) -> bool
-    ensures { λ r. ⌜ r ≡ inShape (layoutOf (planOver d p kind (now (extents .entry)) (now (cuts .entry)) (now (moduli .entry)) (now (matrix .entry)))) ⌝ }
+    ensures { λ r. ⌜ r ≡ inShape (layoutOf (planOver d p kind (now (extents .entry)) (now (cuts .entry)) (now (moduli .entry)) (now (matrix .entry)) (now (least .entry)))) ⌝ }
 {
-    if !have_places(extents, cuts, moduli, matrix) {
+    if !have_places(extents, cuts, moduli, matrix, least) {
         return false;
     }
     if d < 2 {
@@ -146,7 +164,7 @@ pub fn shape_ok<'a>(
     if 1 < kind {
         return false;
     }
-    places_ok(d, p, kind, extents, cuts, moduli, matrix)
+    places_ok(d, p, kind, extents, cuts, moduli, matrix, least)
 }
 
 // Whether a plan is in shape: refusal 6 is for the others.
@@ -161,6 +179,7 @@ pub fn in_shape(plan: Plan) -> bool
         &plan.cuts,
         &plan.moduli,
         &plan.matrix,
+        &plan.least,
     )
 }
 

@@ -17,12 +17,12 @@ use Rattle.multipartition.specs.Tiles.{Inside, isInside, tileNumber, pos
 use Rattle.multipartition.specs.Slabs.{slabStart, slabEnd, thickness, slabOf}
 use Rattle.multipartition.specs.Chains.{headsOf, nextsOf, Chain, Rising}
 use Rattle.multipartition.specs.Plans.{Layout, tilesOf, between, inShape}
-use Rattle.multipartition.specs.Questions.{shapeCheck, dimensionCheck, rangeCheck, chainChecks, extentOf, cutOf, tileOwner, ownerAnswer, neighbourAnswer, numberAnswer, stepAnswer, positionAnswer, slabAnswer, slabOfAnswer, chainsAnswer}
+use Rattle.multipartition.specs.Questions.{shapeCheck, dimensionCheck, rangeCheck, chainChecks, extentOf, cutOf, leastThickness, tileOwner, ownerAnswer, neighbourAnswer, numberAnswer, stepAnswer, positionAnswer, slabAnswer, slabOfAnswer, chainsAnswer}
 use Rattle.multipartition.proofs.Tests.{between-true-iff}
 use Rattle.multipartition.proofs.Answers.{answers-iff}
 use Rattle.multipartition.proofs.Plans.{in-shape-iff}
 use Rattle.multipartition.proofs.Tiles.{inside-of-test, test-of-inside, number-low, number-high, position-inside, position-of-number, number-of-position, one-step-on-inside, step-back}
-use Rattle.multipartition.proofs.Slabs.{slab-start-last, slab-end-is, thickness-least, thickness-never-rises, thickness-differs-by-one, slabs-in-order, slab-of-holds, slab-of-iff}
+use Rattle.multipartition.proofs.Slabs.{slab-start-last, slab-end-is, slab-at-least, thickness-least, thickness-never-rises, thickness-differs-by-one, slabs-in-order, slab-of-holds, slab-of-iff}
 use Rattle.multipartition.proofs.Chains.{tilesOwned, owned-iff, chain-of, chain-rises}
 
 module _ (plan : Layout) where
@@ -169,6 +169,15 @@ module _ (plan : Layout) where
 
       b : ℕ
       b = cutOf plan k
+
+  -- "Slabs no thinner than the stencil" (document 02, request g): every slab of every plan in shape has at least the least thickness of its dimension
+  pub slab-no-thinner : (k s : ℕ) (ends : ℕ × ℕ) → slabAnswer plan k s ≡ answered ends → ends .0 + leastThickness plan k ≤ ends .1
+  slab-no-thinner k s ends e =
+      let h = slab-answered k s ends .0 e in
+      let range = between-true-iff 1 (plan .d) k .0 (h .1) in
+      let rule = in-shape-iff plan .0 (h .0) .least-fits (k - 1) (omega (arith, range .0, range .1)) in
+      subst (λ (x : ℕ × ℕ). x .0 + leastThickness plan k ≤ x .1) (h .3)
+      (slab-at-least (extentOf plan k) (cutOf plan k) s (leastThickness plan k) (cut-in-shape k (h .0) (h .1) .0) rule)
 
   -- ---- owners, neighbours and chains
 

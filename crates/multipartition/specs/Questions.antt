@@ -14,12 +14,15 @@ use Rattle.multipartition.specs.Tiles.{isInside, tileNumber, positionOf,
 use Rattle.multipartition.specs.Slabs.{slabStart, slabEnd, slabOf}
 use Rattle.multipartition.specs.Chains.{headsOf, nextsOf, headsAt, nextsAt}
 
--- the extent and the cut of dimension k
+-- the extent, the cut and the least thickness of dimension k
 abbrev pub extentOf : Layout → ℕ → ℕ
 extentOf plan k = getD (plan .extents) (k - 1) 0
 
 abbrev pub cutOf : Layout → ℕ → ℕ
 cutOf plan k = getD (plan .cuts) (k - 1) 0
+
+abbrev pub leastThickness : Layout → ℕ → ℕ
+leastThickness plan k = getD (plan .least) (k - 1) 0
 
 -- ---- the lines 6 to 9 of the table
 

@@ -15,9 +15,9 @@ shape-ok-requires c κs = search needs
 returns : tie.Need-returns
 unfolding inShape layoutOf
 returns c =
-    let plan = c .before .before .before .before .before .before .before .before .before .before .args .t1 in
+    let plan = c .before .before .before .before .before .before .before .before .before .before .before .before .args .t1 in
     c .shape-ok .ensures
-    ∙ ap (λ (q : Plan). inShape (layoutOf q)) (plan-over (plan .extents) (plan .cuts) (plan .moduli) (plan .matrix) (plan .d) (plan .p) (plan .kind) (search needs))
+    ∙ ap (λ (q : Plan). inShape (layoutOf q)) (plan-over (plan .extents) (plan .cuts) (plan .moduli) (plan .matrix) (plan .least) (plan .d) (plan .p) (plan .kind) (search needs))
 
 pub in-shape-spec : {M : Type 1} → statement M
 in-shape-spec = tie.close (tie.spec shape-ok-requires returns)

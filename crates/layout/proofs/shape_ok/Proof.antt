@@ -11,19 +11,19 @@ use Rattle.layout.proofs.shape_ok.Statement.{statement}
 use Rattle.layout.proofs.shape_ok.Tie as tie
 
 -- once the first check has passed, the lists have a plan's places
-lent : (c : tie.Else1) → let a = c .before .before .before .before .before .before .args in Lent (a .extents .now) (a .cuts .now) (a .moduli .now) (a .matrix .now)
-lent c = lent-of-test _ _ _ _ (sym (c .before .have-places .ensures) ∙ not-false _ (c .if1 .left))
+lent : (c : tie.Else1) → let a = c .before .before .before .before .before .before .before .args in Lent (a .extents .now) (a .cuts .now) (a .moduli .now) (a .matrix .now) (a .least .now)
+lent c = lent-of-test _ _ _ _ _ (sym (c .before .have-places .ensures) ∙ not-false _ (c .if1 .left))
 
-over : (c : tie.Else1) → let a = c .before .before .before .before .before .before .args in
-    planOver (a .d) (a .p) (a .kind) (a .extents .now) (a .cuts .now) (a .moduli .now) (a .matrix .now)
-    ≡ lentPlan (a .d) (a .p) (a .kind) (a .extents .now) (a .cuts .now) (a .moduli .now) (a .matrix .now)
-over c = plan-over _ _ _ _ _ _ _ (lent c)
+over : (c : tie.Else1) → let a = c .before .before .before .before .before .before .before .args in
+    planOver (a .d) (a .p) (a .kind) (a .extents .now) (a .cuts .now) (a .moduli .now) (a .matrix .now) (a .least .now)
+    ≡ lentPlan (a .d) (a .p) (a .kind) (a .extents .now) (a .cuts .now) (a .moduli .now) (a .matrix .now) (a .least .now)
+over c = plan-over _ _ _ _ _ _ _ _ (lent c)
 
 have-places-requires : tie.Need-have-places-requires
 have-places-requires c κs = search needs
 
 returns : tie.Need-returns
-returns c = sym (not-lent _ _ _ _ _ _ _ (sym (c .before .have-places .ensures) ∙ not-true _ (c .if1 .taken)))
+returns c = sym (not-lent _ _ _ _ _ _ _ _ (sym (c .before .have-places .ensures) ∙ not-true _ (c .if1 .taken)))
 
 returns-2 : tie.Need-returns-2
 returns-2 c = rw (over (c .before)) (not-in-shape _ (λ s. omega (arith, s .d-low)))
