@@ -4,7 +4,7 @@ use mathlib.Core.List.{List, [], _∷_, _++_}
 use Prim.Native.Nat.{ℕ, zero, suc, _+_, _*_, _/_, _%_, _≤_, _<_}
 use native.Mathlib.Decide.{decLe}
 use native.Mathlib.Omega.{arith}
-use lib.ListN.{length, take, set, replicate, length-append, length-replicate, List·getD-append}
+use lib.ListN.{length, take, set, replicate, length-append, length-replicate, List·getD-append, List·getD-eq-default}
 use lib.Seq.{length-take-le, getD-take, getD-append-add, getD-set-same, getD-set-other, ext-getD}
 use Rattle.multipartition.specs.Plans.{entryAt}
 use Rattle.layout.specs.Plans.{five, flat}
@@ -72,3 +72,12 @@ filled-more f xs n v l h e k b = go (decLe n k)
     go : Dec (n ≤ k) → at (set xs n v) k ≡ f k
     go (yes m) = let s : k ≡ n = omega arith in rw s (getD-set-same xs n v 0 l ∙ e)
     go (no m) = getD-set-other xs n k v 0 (λ (s : k ≡ n). m (omega arith)) ∙ h k (omega arith)
+
+-- the first k of five places hold the numbers, all of them, and the others zero
+pub five-of-filled : (places numbers : List ℕ) (k : ℕ) → length places ≡ 5 → length numbers ≤ k
+    → ((i : ℕ) → i < k → at places i ≡ at numbers i) → ((i : ℕ) → k ≤ i → at places i ≡ 0) → places ≡ five numbers
+five-of-filled places numbers k e l before past = is-five places numbers e (λ i m. go i (decLe k i))
+  where
+    go : (i : ℕ) → Dec (k ≤ i) → at places i ≡ at numbers i
+    go i (yes m) = past i m ∙ sym (List·getD-eq-default numbers 0 {n = i} (omega arith))
+    go i (no m) = before i (omega arith)

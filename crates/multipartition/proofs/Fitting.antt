@@ -4,11 +4,11 @@
 use mathlib.Core.Path.{_≡_, refl, ap, subst}
 use mathlib.Core.Logic.{_↔_}
 use mathlib.Core.List.{List, [], _∷_}
-use Prim.Native.Nat.{ℕ, zero, suc, _*_, _≤_, _<_}
+use Prim.Native.Nat.{ℕ, zero, suc, _*_, _/_, _≤_, _<_}
 use native.Mathlib.Nat.{not-suc-le-zero, zero-lt-suc, le-of-suc-le-suc, le-trans, mul-one, mul-le-mul-left, le-div-iff-mul-le}
 use native.Mathlib.Omega.{arith}
 use lib.ListN.{length, getD}
-use Rattle.multipartition.specs.Cuts.{Within, Fits, mostOf}
+use Rattle.multipartition.specs.Cuts.{Within, Thick, Fits, mostOf}
 use Rattle.multipartition.proofs.MixedRadix.{Positive}
 use Rattle.multipartition.proofs.Order.{AtMost}
 
@@ -43,24 +43,40 @@ within-of-atMost (n ∷ most) (b ∷ cuts) (c ∷ lower) h m z = (z .0, le-trans
 
 -- ---- cuts that fit
 
--- as many thicknesses as extents, none of them 0
-abbrev pub Thick : List ℕ → List ℕ → Type 0
-Thick [] [] = Unit {0}
-Thick [] (t ∷ least) = ⊥
-Thick (n ∷ extents) [] = ⊥
-Thick (n ∷ extents) (t ∷ least) = (1 ≤ t) × Thick extents least
-
 pub thick-of-places : (extents least : List ℕ) → length least ≡ length extents → ((k : ℕ) → k < length least → 1 ≤ getD least k 0) → Thick extents least
 thick-of-places [] [] e h = tt
 thick-of-places [] (t ∷ least) e h = absurd (omega arith)
 thick-of-places (n ∷ extents) [] e h = absurd (omega arith)
 thick-of-places (n ∷ extents) (t ∷ least) e h = (h 0 (zero-lt-suc (length least)), thick-of-places extents least (omega arith) (λ k l. h (suc k) (omega arith)))
 
-pub length-mostOf : (extents least : List ℕ) → length least ≡ length extents → length (mostOf extents least) ≡ length extents
+pub thick-length : (extents least : List ℕ) → Thick extents least → length least ≡ length extents
+thick-length [] [] h = refl
+thick-length [] (t ∷ least) h = absurd h
+thick-length (n ∷ extents) [] h = absurd h
+thick-length (n ∷ extents) (t ∷ least) h = ap suc (thick-length extents least (h .1))
+
+pub thick-low : (extents least : List ℕ) → Thick extents least → (k : ℕ) → k < length extents → 1 ≤ getD least k 0
+thick-low [] [] h k l = absurd (not-suc-le-zero l)
+thick-low [] (t ∷ least) h k l = absurd h
+thick-low (n ∷ extents) [] h k l = absurd h
+thick-low (n ∷ extents) (t ∷ least) h zero l = h .0
+thick-low (n ∷ extents) (t ∷ least) h (suc k) l = thick-low extents least (h .1) k (le-of-suc-le-suc l)
+
+pub length-mostOf : (extents least : List ℕ) → Thick extents least → length (mostOf extents least) ≡ length extents
 unfolding mostOf
-length-mostOf [] least e = refl
-length-mostOf (n ∷ extents) [] e = absurd (omega arith)
-length-mostOf (n ∷ extents) (t ∷ least) e = ap suc (length-mostOf extents least (omega arith))
+length-mostOf [] [] h = refl
+length-mostOf [] (t ∷ least) h = absurd h
+length-mostOf (n ∷ extents) [] h = absurd h
+length-mostOf (n ∷ extents) (t ∷ least) h = ap suc (length-mostOf extents least (h .1))
+
+pub mostOf-at : (extents least : List ℕ) → Thick extents least → (k : ℕ) → k < length extents
+    → getD (mostOf extents least) k 0 ≡ getD extents k 0 / getD least k 0
+unfolding mostOf
+mostOf-at [] [] h k l = absurd (not-suc-le-zero l)
+mostOf-at [] (t ∷ least) h k l = absurd h
+mostOf-at (n ∷ extents) [] h k l = absurd h
+mostOf-at (n ∷ extents) (t ∷ least) h zero l = refl
+mostOf-at (n ∷ extents) (t ∷ least) h (suc k) l = mostOf-at extents least (h .1) k (le-of-suc-le-suc l)
 
 -- Cuts fit just if none is 0 or above the most slabs of its dimension: b · t ≤ n just if b ≤ n / t.
 pub fits-iff-within : (extents least cuts : List ℕ) → Thick extents least → Fits extents least cuts ↔ Within (mostOf extents least) cuts

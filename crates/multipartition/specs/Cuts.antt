@@ -31,6 +31,13 @@ unfoldable pub cutsWithin : List ℕ → List (List ℕ)
 cutsWithin [] = [] ∷ []
 cutsWithin (n ∷ most) = startingWith 1 n (cutsWithin most)
 
+-- as many thicknesses as extents, none of them 0
+abbrev pub Thick : List ℕ → List ℕ → Type 0
+Thick [] [] = Unit {0}
+Thick [] (t ∷ least) = ⊥
+Thick (n ∷ extents) [] = ⊥
+Thick (n ∷ extents) (t ∷ least) = (1 ≤ t) × Thick extents least
+
 -- Document 02, request g: "Cuts fit only if bk times the least thickness of k is at most nk". As before, no cut is 0. The lists are the extents, the
 -- least thicknesses and the cuts.
 abbrev pub Fits : List ℕ → List ℕ → List ℕ → Type 0

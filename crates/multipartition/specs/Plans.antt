@@ -20,6 +20,9 @@ pub record Job : Type 0 where
   pub weights : List ℕ
   pub least : List ℕ
 
+abbrev pub thickJob : ℕ → ℕ → List ℕ → List ℕ → List ℕ → Job
+thickJob p d extents weights least = record { p = p; d = d; extents = extents; weights = weights; least = least }
+
 -- the least thicknesses of d dimensions by the list given: "1 where none is given"
 abbrev pub leastOf : ℕ → List ℕ → List ℕ
 leastOf d [] = replicate d 1
@@ -27,7 +30,7 @@ leastOf d (t ∷ given) = t ∷ given
 
 -- the job of what a call is given, with a list of thicknesses that may be empty
 abbrev pub jobWith : ℕ → ℕ → List ℕ → List ℕ → List ℕ → Job
-jobWith p d extents weights given = record { p = p; d = d; extents = extents; weights = weights; least = leastOf d given }
+jobWith p d extents weights given = thickJob p d extents weights (leastOf d given)
 
 -- "A plan holds d, p, extents, weights, cuts, cost, moduli, matrix": each list has d numbers, the matrix d rows of d numbers. "Places past d
 -- .. are never read": a layout has none. Document 02, request c: plans have "a kind field: 0 for the planner's, 1 for diagonal"; request g: and "a
@@ -46,7 +49,7 @@ pub record Layout : Type 0 where
 
 -- the job that a plan holds
 abbrev pub jobOf : Layout → Job
-jobOf plan = record { p = plan .p; d = plan .d; extents = plan .extents; weights = plan .weights; least = plan .least }
+jobOf plan = thickJob (plan .p) (plan .d) (plan .extents) (plan .weights) (plan .least)
 
 -- the planner's plan with the cuts that it chose
 abbrev pub layoutWith : Job → List ℕ → Layout

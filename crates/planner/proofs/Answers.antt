@@ -1,14 +1,12 @@
 -- The planner's answer: a refusal has a number from 1 on, so that 0 tells a plan from a refusal, and a plan fits its five places.
-use mathlib.Core.Path.{_≡_, _∙_, subst⁻¹}
-use Prim.Native.Nat.{ℕ, _+_, _≤_}
-use native.Mathlib.Omega.{arith}
-use lib.ListN.{length}
+use mathlib.Core.Path.{_≡_, subst⁻¹}
+use Prim.Native.Nat.{ℕ, _≤_}
 use Rattle.multipartition.specs.Answers.{Answer, answered, refused}
 use Rattle.multipartition.specs.Plans.{Job, Layout}
 use Rattle.multipartition.specs.Jobs.{planAnswer}
 use Rattle.multipartition.proofs.Chosen.{chosen-length}
 use Rattle.multipartition.proofs.Answers.{Small}
-use Rattle.multipartition.proofs.Jobs.{plan-answered, plan-small}
+use Rattle.multipartition.proofs.Jobs.{placesOf, plan-answered, plan-small}
 use Rattle.layout.specs.Sized.{Sized}
 use Rattle.layout.proofs.Plans.{layout-with-sized}
 
@@ -21,12 +19,9 @@ numbered-of-small most (answered plan) h = tt
 numbered-of-small most (refused number place) h = h .0
 
 pub numbered-plan : (job : Job) → Numbered (planAnswer job)
-numbered-plan job = numbered-of-small (1 + length (job .extents)) (planAnswer job) (plan-small job)
+numbered-plan job = numbered-of-small (placesOf job) (planAnswer job) (plan-small job)
 
 pub plan-sized : (job : Job) (plan : Layout) → planAnswer job ≡ answered plan → Sized plan
 plan-sized job plan e =
     let made = plan-answered job plan e in
-    let passed = made .passed in
-    subst⁻¹ Sized (made .plan-is)
-    (layout-with-sized job (plan .cuts) (omega (arith, passed .range .d-high, passed .extents-many)) (passed .extents-many) (passed .weights-many)
-    (chosen-length job (plan .cuts) (made .cuts-are) ∙ passed .extents-many))
+    subst⁻¹ Sized (made .plan-is) (layout-with-sized job (plan .cuts) (made .passed) (chosen-length job (made .passed) (plan .cuts) (made .cuts-are)))

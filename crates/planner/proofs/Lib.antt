@@ -1,4 +1,4 @@
-pub mod Outside
+pub mod Thicknesses
 pub mod Refusals
 pub mod Choices
 pub mod Answers

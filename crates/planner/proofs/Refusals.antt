@@ -1,27 +1,19 @@
--- The lines 1 to 4 of the table, one after the other, by the tests of the code.
+-- The lines 1 to 4 of the table and 13, one after the other, by the tests of the code.
 use mathlib.Core.Path.{_≡_, refl, ap, _∙_}
-use mathlib.Core.Bool.{Bool, true, false, not, _||_}
-use mathlib.Core.List.{List}
+use mathlib.Core.Bool.{true, false, not}
+use mathlib.Core.List.{List, [], _∷_}
 use mathlib.Core.Logic.{inl, inr}
-use Prim.Native.Nat.{ℕ}
-use borrow.Author.Tests.{ne-eqb, eq-eqb, eqb-true, not-false}
-use lib.Dec.{eqb}
-use lib.ListN.{length}
+use Prim.Native.Nat.{ℕ, _<_}
+use native.Mathlib.Omega.{arith}
+use borrow.Author.Tests.{ne-eqb, eq-eqb, lt-ltb, le-ltb}
+use lib.Dec.{ltb, eqb}
+use lib.ListN.{length, take, replicate}
 use Rattle.multipartition.specs.Answers.{refused}
-use Rattle.multipartition.specs.Plans.{Job}
-use Rattle.multipartition.specs.Jobs.{Passed, firstOutside, jobChecks, cheapestFor, planWith, planAnswer}
+use Rattle.multipartition.specs.Plans.{Job, thickJob, jobWith, leastOf}
+use Rattle.multipartition.specs.Jobs.{Passed, firstOutside, firstZero, lengthsCheck, jobChecks, cheapestFor, planWith, planAnswer}
 use Rattle.multipartition.proofs.Answers.{FirstFails, checked-refused}
 use Rattle.multipartition.proofs.Jobs.{job-passes-iff}
-use Rattle.multipartition.proofs.Tests.{or-false, outsideRange, outside-range}
-
--- two lists of d numbers
-abbrev pub otherLengths : ℕ → List ℕ → List ℕ → Bool
-otherLengths d extents weights = not (eqb (length extents) d) || not (eqb (length weights) d)
-
-pub lengths : (d : ℕ) (extents weights : List ℕ) → otherLengths d extents weights ≡ false → (length extents ≡ d) × (length weights ≡ d)
-lengths d extents weights e =
-    let both = or-false (not (eqb (length extents) d)) (not (eqb (length weights) d)) e in
-    (eqb-true (length extents) d (not-false (eqb (length extents) d) (both .0)), eqb-true (length weights) d (not-false (eqb (length weights) d) (both .1)))
+use Rattle.multipartition.proofs.Tests.{outsideRange, outside-range}
 
 module _ (job : Job) where
   first-fails : (number place : ℕ) → FirstFails (jobChecks job) number place → planAnswer job ≡ refused number place
@@ -36,14 +28,25 @@ module _ (job : Job) where
     refused-2 e = first-fails 2 0 (inr (outside-range 2 5 (job .d) ∙ d-in, inl (outside-range 1 4096 (job .p) ∙ e, refl, refl)))
 
     module _ (p-in : outsideRange 1 4096 (job .p) ≡ false) where
-      pub refused-3 : otherLengths (job .d) (job .extents) (job .weights) ≡ true → planAnswer job ≡ refused 3 0
+      pub refused-3 : lengthsCheck job .fails ≡ true → planAnswer job ≡ refused 3 0
       refused-3 e = first-fails 3 0 (inr (outside-range 2 5 (job .d) ∙ d-in, inr (outside-range 1 4096 (job .p) ∙ p-in, inl (e, refl, refl))))
 
-      module _ (many : otherLengths (job .d) (job .extents) (job .weights) ≡ false) where
-        pub refused-4 : (firstOutside 1 (job .extents) ≡ 0 → ⊥) → planAnswer job ≡ refused 4 (firstOutside 1 (job .extents))
+      module _ (many : lengthsCheck job .fails ≡ false) where
+        pub refused-4 : (firstOutside (job .extents) ≡ 0 → ⊥) → planAnswer job ≡ refused 4 (firstOutside (job .extents))
         refused-4 e =
-            first-fails 4 (firstOutside 1 (job .extents))
-            (inr (outside-range 2 5 (job .d) ∙ d-in, inr (outside-range 1 4096 (job .p) ∙ p-in, inr (many, inl (ap not (ne-eqb (firstOutside 1 (job .extents)) 0 e), refl, refl)))))
+            first-fails 4 (firstOutside (job .extents))
+            (inr (outside-range 2 5 (job .d) ∙ d-in, inr (outside-range 1 4096 (job .p) ∙ p-in, inr (many, inl (ap not (ne-eqb (firstOutside (job .extents)) 0 e), refl, refl)))))
 
-        pub passed : firstOutside 1 (job .extents) ≡ 0 → Passed job
-        passed e = job-passes-iff job .0 (outside-range 2 5 (job .d) ∙ d-in, (outside-range 1 4096 (job .p) ∙ p-in, (many, (ap not (eq-eqb (firstOutside 1 (job .extents)) 0 e), tt))))
+        module _ (inside : firstOutside (job .extents) ≡ 0) where
+          extents-pass : not (eqb (firstOutside (job .extents)) 0) ≡ false
+          extents-pass = ap not (eq-eqb (firstOutside (job .extents)) 0 inside)
+
+          pub refused-13 : (firstZero (job .least) ≡ 0 → ⊥) → planAnswer job ≡ refused 13 (firstZero (job .least))
+          refused-13 e =
+              first-fails 13 (firstZero (job .least))
+              (inr (outside-range 2 5 (job .d) ∙ d-in, inr (outside-range 1 4096 (job .p) ∙ p-in, inr (many, inr (extents-pass, inl (ap not (ne-eqb (firstZero (job .least)) 0 e), refl, refl))))))
+
+          pub passed : firstZero (job .least) ≡ 0 → Passed job
+          passed e =
+              job-passes-iff job .0
+              (outside-range 2 5 (job .d) ∙ d-in, (outside-range 1 4096 (job .p) ∙ p-in, (many, (extents-pass, (ap not (eq-eqb (firstZero (job .least)) 0 e), tt)))))

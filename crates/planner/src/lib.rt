@@ -7,9 +7,9 @@ ghost use mathlib.Core.Path.{_≡_};
 ghost use Prim.Native.Nat.{_≤_};
 ghost use lib.ListN.{length, take};
 ghost use Rattle.multipartition.specs.Answers.{refused as refusal};
-ghost use Rattle.multipartition.specs.Cuts.{costOf, cheapest};
-ghost use Rattle.multipartition.specs.Plans.{jobWith, layoutWith, between};
-ghost use Rattle.multipartition.specs.Jobs.{firstOutside, planWith, planAnswer};
+ghost use Rattle.multipartition.specs.Cuts.{Thick, mostOf, costOf, cheapest};
+ghost use Rattle.multipartition.specs.Plans.{thickJob, jobWith, layoutWith, between};
+ghost use Rattle.multipartition.specs.Jobs.{firstOutside, firstZero, planWith, planAnswer};
 ghost use Rattle.layout.specs.Plans.{five, planOf};
 ghost use Rattle.planner.specs.Planned.{plannedOf};
 ghost use Rattle.cuts.specs.Found.{Asked};
@@ -55,7 +55,7 @@ fn in_range(extent: u32) -> bool
 // The first dimension, counted from 1, whose extent is out of range; 0 if there is none.
 pub fn first_outside(extents: &[u32]) -> u32
     requires { ⌜ length (now extents) ≤ 5 ⌝ }
-    ensures { λ r. ⌜ r ≡ firstOutside 1 (now (extents .entry)) ⌝ }
+    ensures { λ r. ⌜ r ≡ firstOutside (now (extents .entry)) ⌝ }
 {
     let mut place: u32 = 0;
     for k in 0..extents.len() {
@@ -67,15 +67,50 @@ pub fn first_outside(extents: &[u32]) -> u32
     0
 }
 
+// The first dimension, counted from 1, whose least thickness is 0; 0 if there is none.
+pub fn first_zero(least: &[u32]) -> u32
+    requires { ⌜ length (now least) ≤ 5 ⌝ }
+    ensures { λ r. ⌜ r ≡ firstZero (now (least .entry)) ⌝ }
+{
+    let mut place: u32 = 0;
+    for k in 0..least.len() {
+        place = place + 1;
+        if least[k] < 1 {
+            return place;
+        }
+    }
+    0
+}
+
+// The most slabs of each dimension: its extent divided by its least thickness, rounded down.
+fn most_slabs<'a>(extents: &'a [u32], least: &'a [u32]) -> [u32; 5]
+    requires { ⌜ (length (now extents) ≤ 5) × (Thick (now extents) (now least)) ⌝ }
+    ensures { λ r. ⌜ r ≡ five (mostOf (now (extents .entry)) (now (least .entry))) ⌝ }
+{
+    let mut most: [u32; 5] = [0; 5];
+    for k in 0..extents.len() {
+        most[k] = extents[k] / least[k];
+    }
+    most
+}
+
 // The plan with the cuts chosen.
-fn plan_with(p: u32, extents: &[u32], weights: &[u32], cuts: [u32; 5], cost: u64) -> Plan
-    requires { ⌜ (1 ≤ p) × (p ≤ 4096) × (length (now extents) ≤ 5) × (length (now weights) ≤ 5) ⌝ }
+fn plan_with<'a>(
+    p: u32,
+    extents: &'a [u32],
+    weights: &'a [u32],
+    least: &'a [u32],
+    cuts: [u32; 5],
+    cost: u64,
+) -> Plan
+    requires { ⌜ (1 ≤ p) × (p ≤ 4096) × (length (now extents) ≤ 5) × (length (now weights) ≤ 5) × (length (now least) ≤ 5) ⌝ }
     requires { ⌜ (cuts ≡ five (take (length (now extents)) cuts)) × (cost ≡ costOf (now weights) (take (length (now extents)) cuts)) ⌝ }
-    ensures { λ r. ⌜ r ≡ planOf (layoutWith (jobWith p (length (now (extents .entry))) (now (extents .entry)) (now (weights .entry))) (take (length (now (extents .entry))) cuts)) ⌝ }
+    ensures { λ r. ⌜ r ≡ planOf (layoutWith (thickJob p (length (now (extents .entry))) (now (extents .entry)) (now (weights .entry)) (now (least .entry))) (take (length (now (extents .entry))) cuts)) ⌝ }
 {
     let d = extents.len();
     let kept_extents = padded(extents);
     let kept_weights = padded(weights);
+    let kept_least = padded(least);
     let moduli = moduli_of(p, cuts, d);
     let matrix = matrix_of(p, cuts, moduli, d);
     Plan {
@@ -88,15 +123,18 @@ fn plan_with(p: u32, extents: &[u32], weights: &[u32], cuts: [u32; 5], cost: u64
         moduli: moduli,
         matrix: matrix,
         kind: 0,
+        least: kept_least,
     }
 }
 
-// The answer to a job that passes the lines 1 to 4 of the table.
-fn answer(p: u32, extents: &[u32], weights: &[u32]) -> Planned
-    requires { ⌜ Asked p (now extents) (now weights) ⌝ }
-    ensures { λ r. ⌜ r ≡ plannedOf (planWith (jobWith p (length (now (extents .entry))) (now (extents .entry)) (now (weights .entry))) (cheapest p (now (extents .entry)) (now (weights .entry)))) ⌝ }
+// The answer to a job that passes the lines 1 to 4 of the table and 13.
+fn answer<'a>(p: u32, extents: &'a [u32], weights: &'a [u32], least: &'a [u32]) -> Planned
+    requires { ⌜ (Asked p (now extents) (now weights)) × (Thick (now extents) (now least)) ⌝ }
+    ensures { λ r. ⌜ r ≡ plannedOf (planWith (thickJob p (length (now (extents .entry))) (now (extents .entry)) (now (weights .entry)) (now (least .entry))) (cheapest p (now (extents .entry)) (now (least .entry)) (now (weights .entry)))) ⌝ }
 {
-    let found = cheapest_cuts(p, extents, weights);
+    let d = extents.len();
+    let most = most_slabs(extents, least);
+    let found = cheapest_cuts(p, &most[0..d], weights);
     if !found.ok {
         return refused(5, 0);
     }
@@ -104,13 +142,19 @@ fn answer(p: u32, extents: &[u32], weights: &[u32]) -> Planned
     Planned {
         number: 0,
         place: 0,
-        plan: plan_with(p, extents, weights, cuts, found.cost),
+        plan: plan_with(p, extents, weights, least, cuts, found.cost),
     }
 }
 
-// The planner's answer to a job.
-pub fn plan_job(p: u32, d: usize, extents: &[u32], weights: &[u32]) -> Planned
-    ensures { λ r. ⌜ r ≡ plannedOf (planAnswer (jobWith p d (now (extents .entry)) (now (weights .entry)))) ⌝ }
+// The planner's answer to a job with a list of least thicknesses.
+fn plan_thick<'a>(
+    p: u32,
+    d: usize,
+    extents: &'a [u32],
+    weights: &'a [u32],
+    least: &'a [u32],
+) -> Planned
+    ensures { λ r. ⌜ r ≡ plannedOf (planAnswer (thickJob p d (now (extents .entry)) (now (weights .entry)) (now (least .entry)))) ⌝ }
 {
     if (d < 2) | (5 < d) {
         return refused(1, 0);
@@ -118,12 +162,36 @@ pub fn plan_job(p: u32, d: usize, extents: &[u32], weights: &[u32]) -> Planned
     if (p < 1) | (4096 < p) {
         return refused(2, 0);
     }
-    if (extents.len() != d) | (weights.len() != d) {
+    if (extents.len() != d) | (weights.len() != d) | (least.len() != d) {
         return refused(3, 0);
     }
     let outside = first_outside(extents);
     if outside != 0 {
         return refused(4, outside);
     }
-    answer(p, extents, weights)
+    let zero = first_zero(least);
+    if zero != 0 {
+        return refused(13, zero);
+    }
+    answer(p, extents, weights, least)
+}
+
+// The planner's answer to a job; an empty list of least thicknesses stands for 1 in every dimension.
+pub fn plan_job<'a>(
+    p: u32,
+    d: usize,
+    extents: &'a [u32],
+    weights: &'a [u32],
+    least: &'a [u32],
+) -> Planned
+    ensures { λ r. ⌜ r ≡ plannedOf (planAnswer (jobWith p d (now (extents .entry)) (now (weights .entry)) (now (least .entry)))) ⌝ }
+{
+    if least.len() != 0 {
+        return plan_thick(p, d, extents, weights, least);
+    }
+    if 5 < d {
+        return refused(1, 0);
+    }
+    let ones: [u32; 5] = [1; 5];
+    plan_thick(p, d, extents, weights, &ones[0..d])
 }

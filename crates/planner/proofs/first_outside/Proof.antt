@@ -6,14 +6,16 @@ use native.Mathlib.Omega.{arith}
 use borrow.Author.Needs.{needs}
 use borrow.Author.Tests.{not-true, not-false}
 use lib.ListN.{length, drop}
+use Rattle.multipartition.specs.Lists.{firstFailing}
+use Rattle.multipartition.specs.Plans.{between}
 use Rattle.multipartition.specs.Jobs.{firstOutside}
-use Rattle.planner.proofs.Outside.{outside-here, outside-later, outside-none}
+use Rattle.multipartition.proofs.Searches.{failing-here, failing-later, failing-none}
 use Rattle.planner.proofs.first_outside.Statement.{statement}
 use Rattle.planner.proofs.first_outside.Tie as tie
 
 abbrev Inv-loop : tie.InvT-loop
 Inv-loop extents place₀ k₀ k-end place k =
-    (k ≤ k-end) × (k-end ≡ length extents) × (place ≡ k) × (firstOutside (suc k) (drop k extents) ≡ firstOutside 1 extents)
+    (k ≤ k-end) × (k-end ≡ length extents) × (place ≡ k) × (firstFailing (between 1 1000000) (suc k) (drop k extents) ≡ firstOutside extents)
 
 abbrev μ-loop : tie.MeasureT-loop
 μ-loop extents place₀ k₀ k-end place k = k-end - k
@@ -38,7 +40,7 @@ returns c =
     let head = c .before .before .before .before .loop in
     let extents = c .before .before .before .before .before .before .args .extents .now in
     let place : head .place + 1 ≡ suc (head .k) = omega arith in
-    place ∙ sym (outside-here (suc (head .k)) extents (head .k) (omega arith) (sym (c .before .in-range .ensures) ∙ not-true _ (c .if1 .taken))) ∙ head .inv .3
+    place ∙ sym (failing-here (between 1 1000000) (suc (head .k)) extents (head .k) (omega arith) (sym (c .before .in-range .ensures) ∙ not-true _ (c .if1 .taken))) ∙ head .inv .3
 
 add-k : tie.Need-add-k Inv-loop μ-loop
 add-k c = search needs
@@ -50,13 +52,13 @@ loop-again : tie.Need-loop-again Inv-loop μ-loop
 loop-again c =
     let head = c .before .before .before .before .loop in
     let extents = c .before .before .before .before .before .before .args .extents .now in
-    let later = outside-later (suc (head .k)) extents (head .k) (omega arith) (sym (c .before .in-range .ensures) ∙ not-false _ (c .if1 .left)) in
+    let later = failing-later (between 1 1000000) (suc (head .k)) extents (head .k) (omega arith) (sym (c .before .in-range .ensures) ∙ not-false _ (c .if1 .left)) in
     (omega arith, refl, omega arith, rw add-one (sym later ∙ head .inv .3))
 
 returns-2 : tie.Need-returns-2 Inv-loop μ-loop
 returns-2 c =
     let head = c .before .loop in
-    sym (outside-none (suc (head .k)) (c .before .before .before .args .extents .now) (head .k) (omega arith)) ∙ head .inv .3
+    sym (failing-none (between 1 1000000) (suc (head .k)) (c .before .before .before .args .extents .now) (head .k) (omega arith)) ∙ head .inv .3
 
 pub first-outside-spec : {M : Type 1} → statement M
 first-outside-spec =

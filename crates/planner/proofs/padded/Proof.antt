@@ -1,14 +1,12 @@
 -- `padded` meets its contract. The loop's invariant: the first k places hold the numbers, the others zero.
-use mathlib.Core.Path.{_≡_, refl, sym, _∙_}
-use mathlib.Core.List.{List}
+use mathlib.Core.Path.{_≡_, refl, _∙_}
 use Prim.Native.Nat.{ℕ, _-_, _≤_, _<_}
-use native.Mathlib.Decide.{decLe}
 use native.Mathlib.Omega.{arith}
 use borrow.Author.Needs.{needs}
-use lib.ListN.{length, length-set, List·getD-eq-default}
+use lib.ListN.{length, length-set}
 use lib.Seq.{getD-set-other}
 use Rattle.matrix.specs.Rows.{at}
-use Rattle.matrix.proofs.Padding.{at-zeros, filled-more, is-five}
+use Rattle.matrix.proofs.Padding.{at-zeros, filled-more, five-of-filled}
 use Rattle.planner.proofs.padded.Statement.{statement}
 use Rattle.planner.proofs.padded.Tie as tie
 
@@ -54,20 +52,10 @@ loop-again c =
       λ i l. getD-set-other (head .places) (head .k) i _ 0 (λ (e : i ≡ head .k). omega arith) ∙ head .inv .4 i (omega arith),
     )
 
--- past the numbers both have zero
-place : (places numbers : List ℕ) (k : ℕ) → ((i : ℕ) → i < k → at places i ≡ at numbers i) → ((i : ℕ) → k ≤ i → at places i ≡ 0) → length numbers ≤ k
-    → (i : ℕ) → at places i ≡ at numbers i
-place places numbers k before past l i = go (decLe k i)
-  where
-    go : Dec (k ≤ i) → at places i ≡ at numbers i
-    go (yes m) = past i m ∙ sym (List·getD-eq-default numbers 0 {n = i} (omega arith))
-    go (no m) = before i (omega arith)
-
 returns : tie.Need-returns Inv-loop μ-loop
 returns c =
     let head = c .before .loop in
-    let numbers = c .before .before .args .numbers .now in
-    is-five (head .places) numbers (head .inv .2) (λ i l. place (head .places) numbers (head .k) (head .inv .3) (head .inv .4) (omega arith) i)
+    five-of-filled (head .places) (c .before .before .args .numbers .now) (head .k) (head .inv .2) (omega arith) (head .inv .3) (head .inv .4)
 
 pub padded-spec : {M : Type 1} → statement M
 padded-spec =

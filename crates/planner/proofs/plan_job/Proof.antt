@@ -1,96 +1,69 @@
--- `plan_job` meets its contract: each line of the table that turns the job down, and the answer.
+-- `plan_job` meets its contract: the thicknesses given, or ones.
 use mathlib.Core.Path.{sym, ap, _∙_}
-use Prim.Native.Nat.{ℕ}
+use mathlib.Core.List.{List}
+use mathlib.Core.Logic.{inr}
+use Prim.Native.Nat.{ℕ, _-_}
 use native.Mathlib.Omega.{arith}
-use Rattle.multipartition.specs.Answers.{refused as refusal}
-use Rattle.multipartition.specs.Cuts.{cheapest}
-use Rattle.multipartition.specs.Plans.{jobWith}
-use Rattle.multipartition.specs.Jobs.{planWith}
-use Rattle.multipartition.proofs.Jobs.{plan-of-passed}
+use borrow.Author.Tests.{lt-ltb}
+use lib.Dec.{ltb}
+use Rattle.multipartition.specs.Plans.{thickJob, jobWith}
+use Rattle.multipartition.specs.Jobs.{planAnswer}
+use Rattle.multipartition.proofs.Tests.{or-true-iff}
 use Rattle.planner.specs.Planned.{plannedOf}
-use Rattle.multipartition.proofs.Tests.{in-range-of-test}
-use Rattle.planner.proofs.Refusals.{lengths, refused-1, refused-2, refused-3, refused-4, passed}
+use Rattle.planner.proofs.Refusals.{refused-1}
+use Rattle.planner.proofs.Thicknesses.{least-of-given, least-of-none, take-ones}
 use borrow.Author.Needs.{needs}
 use Rattle.planner.proofs.plan_job.Statement.{statement}
 use Rattle.planner.proofs.plan_job.Tie as tie
 
-refused-requires : tie.Need-refused-requires
-refused-requires c κs = search needs
+plan-thick-requires : tie.Need-plan-thick-requires
+plan-thick-requires c κs = search needs
 
 returns : tie.Need-returns
 returns c =
-    let start = c .before .before .before .before in
-    c .refused .ensures ∙ sym (ap plannedOf (refused-1 (jobWith (start .args .p) (start .args .d) (start .args .extents .now) (start .args .weights .now)) (c .before .if1 .taken)))
+    let a = c .before .before .before .before .before .args in
+    c .plan-thick .ensures
+    ∙ sym (ap (λ (least : List ℕ). plannedOf (planAnswer (thickJob (a .p) (a .d) (a .extents .now) (a .weights .now) least))) (least-of-given (a .d) (a .least .now) (c .before .if1 .taken)))
 
-refused-requires-2 : tie.Need-refused-requires-2
-refused-requires-2 c κs = search needs
+refused-requires : tie.Need-refused-requires
+refused-requires c κs = search needs
 
 returns-2 : tie.Need-returns-2
 returns-2 c =
-    let start = c .before .before .before .before .before in
-    c .refused2 .ensures
-    ∙ sym (ap plannedOf (refused-2 (jobWith (start .args .p) (start .args .d) (start .args .extents .now) (start .args .weights .now)) (c .before .before .if1 .left) (c .before .if2 .taken)))
+    let a = c .before .before .before .before .before .before .args in
+    c .refused .ensures
+    ∙ sym (ap plannedOf
+    (refused-1 (jobWith (a .p) (a .d) (a .extents .now) (a .weights .now) (a .least .now)) (or-true-iff (ltb (a .d) 2) (ltb 5 (a .d)) .1 (inr (lt-ltb 5 (a .d) (c .before .if2 .taken))))))
 
-refused-requires-3 : tie.Need-refused-requires-3
-refused-requires-3 c κs = search needs
+sub-plan-thick : tie.Need-sub-plan-thick
+sub-plan-thick c = search needs
+
+part-plan-thick-start : tie.Need-part-plan-thick-start
+part-plan-thick-start c = search needs
+
+part-plan-thick-end : tie.Need-part-plan-thick-end
+part-plan-thick-end c = search needs
+
+plan-thick-requires-2 : tie.Need-plan-thick-requires-2
+plan-thick-requires-2 c κs = search needs
 
 returns-3 : tie.Need-returns-3
 returns-3 c =
-    let start = c .before .before .before .before .before .before in
-    c .refused3 .ensures
-    ∙ sym (ap plannedOf
-    (refused-3 (jobWith (start .args .p) (start .args .d) (start .args .extents .now) (start .args .weights .now)) (c .before .before .before .if1 .left) (c .before .before .if2 .left) (c .before .if3 .taken)))
-
-first-outside-requires : tie.Need-first-outside-requires
-first-outside-requires c κs =
-    let start = c .before .before .before .before .before in
-    omega (arith, in-range-of-test 2 5 (start .args .d) (c .before .before .if1 .left) .1, lengths (start .args .d) (start .args .extents .now) (start .args .weights .now) (c .if3 .left) .0)
-
-refused-requires-4 : tie.Need-refused-requires-4
-refused-requires-4 c κs = search needs
-
-returns-4 : tie.Need-returns-4
-returns-4 c =
-    let start = c .before .before .before .before .before .before .before .before in
-    let found = c .before .before .first-outside .ensures in
-    c .refused4 .ensures
-    ∙ ap (λ (n : ℕ). plannedOf (refusal 4 n)) found
-    ∙ sym (ap plannedOf
-    (refused-4 (jobWith (start .args .p) (start .args .d) (start .args .extents .now) (start .args .weights .now)) (c .before .before .before .before .before .if1 .left)
-    (c .before .before .before .before .if2 .left) (c .before .before .before .if3 .left) (λ e. c .before .if4 .taken (found ∙ e))))
-
-answer-requires : tie.Need-answer-requires
-answer-requires c κs =
-    let start = c .before .before .before .before .before .before .before in
-    let job =
-    passed (jobWith (start .args .p) (start .args .d) (start .args .extents .now) (start .args .weights .now)) (c .before .before .before .before .if1 .left)
-    (c .before .before .before .if2 .left) (c .before .before .if3 .left) (sym (c .before .first-outside .ensures) ∙ c .if4 .left) in
-    let range = job .range in
-    record { p-low = range .p-low; p-high = range .p-high; d-low = range .d-low; d-high = range .d-high; weights-too = job .weights-many ∙ sym (job .extents-many) }
-
-returns-5 : tie.Need-returns-5
-returns-5 c =
-    let start = c .before .before .before .before .before .before .before .before in
-    let job =
-    passed (jobWith (start .args .p) (start .args .d) (start .args .extents .now) (start .args .weights .now)) (c .before .before .before .before .before .if1 .left)
-    (c .before .before .before .before .if2 .left) (c .before .before .before .if3 .left) (sym (c .before .before .first-outside .ensures) ∙ c .before .if4 .left) in
-    c .answer .ensures
-    ∙ ap (λ (n : ℕ). plannedOf (planWith (jobWith (start .args .p) n (start .args .extents .now) (start .args .weights .now)) (cheapest (start .args .p) (start .args .extents .now) (start .args .weights .now))))
-    (job .extents-many)
-    ∙ sym (ap plannedOf (plan-of-passed (jobWith (start .args .p) (start .args .d) (start .args .extents .now) (start .args .weights .now)) job))
+    let e = c .before .before .before in
+    let a = e .before .before .before .before .before .args in
+    let ones = take-ones (a .d - 0) (a .d) (omega arith) (omega (arith, e .if2 .left)) ∙ sym (least-of-none (a .d) (a .least .now) (e .before .if1 .left)) in
+    c .plan-thick2 .ensures ∙ ap (λ (least : List ℕ). plannedOf (planAnswer (thickJob (a .p) (a .d) (a .extents .now) (a .weights .now) least))) ones
 
 pub plan-job-spec : {M : Type 1} → statement M
 plan-job-spec =
     tie.close
     (tie.spec
-    refused-requires
+    plan-thick-requires
     returns
-    refused-requires-2
+    refused-requires
     returns-2
-    refused-requires-3
-    returns-3
-    first-outside-requires
-    refused-requires-4
-    returns-4
-    answer-requires
-    returns-5)
+    sub-plan-thick
+    part-plan-thick-start
+    part-plan-thick-end
+    plan-thick-requires-2
+    returns-3)

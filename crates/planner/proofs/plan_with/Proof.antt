@@ -11,6 +11,9 @@ padded-requires c κs = search needs
 padded-requires-2 : tie.Need-padded-requires-2
 padded-requires-2 c κs = search needs
 
+padded-requires-3 : tie.Need-padded-requires-3
+padded-requires-3 c κs = search needs
+
 moduli-of-requires : tie.Need-moduli-of-requires
 moduli-of-requires c κs = search needs
 
@@ -20,20 +23,21 @@ matrix-of-requires c κs = search needs
 returns : tie.Need-returns
 unfolding planOf
 returns c =
-    let start = c .before .before .before .before .before .before in
+    let start = c .before .before .before .before .before .before .before .before in
     λ i. record {
       d = length (start .args .extents .now);
       p = start .args .p;
-      extents = c .before .before .before .padded .ensures i;
-      weights = c .before .before .padded2 .ensures i;
+      extents = c .before .before .before .before .padded .ensures i;
+      weights = c .before .before .before .padded2 .ensures i;
       cuts = start .pre .1 .0 i;
       cost = start .pre .1 .1 i;
       moduli = c .before .moduli-of .ensures i;
       matrix = c .matrix-of .ensures i;
       kind = 0;
+      least = c .before .before .padded3 .ensures i;
     }
 
 pub plan-with-spec : {M : Type 1} → statement M
 plan-with-spec =
     tie.close
-    (tie.spec padded-requires padded-requires-2 moduli-of-requires matrix-of-requires returns)
+    (tie.spec padded-requires padded-requires-2 padded-requires-3 moduli-of-requires matrix-of-requires returns)

@@ -1,0 +1,122 @@
+-- `plan_thick` meets its contract: each line of the table that turns the job down, and the answer.
+use mathlib.Core.Path.{_≡_, sym, ap, _∙_}
+use Prim.Native.Nat.{ℕ}
+use native.Mathlib.Omega.{arith}
+use Rattle.multipartition.specs.Answers.{refused as refusal}
+use Rattle.multipartition.specs.Cuts.{cheapest}
+use Rattle.multipartition.specs.Plans.{Job, thickJob}
+use Rattle.multipartition.specs.Jobs.{Passed, firstOutside, planWith}
+use Rattle.multipartition.proofs.Fitting.{thick-of-places}
+use Rattle.multipartition.proofs.Jobs.{lengths-of-check, plan-of-passed}
+use Rattle.planner.specs.Planned.{plannedOf}
+use Rattle.multipartition.proofs.Tests.{in-range-of-test}
+use Rattle.planner.proofs.Refusals.{refused-1, refused-2, refused-3, refused-4, refused-13, passed}
+use borrow.Author.Needs.{needs}
+use Rattle.planner.proofs.plan_thick.Statement.{statement}
+use Rattle.planner.proofs.plan_thick.Tie as tie
+
+abbrev job : tie.Start → Job
+job s = let a = s .args in thickJob (a .p) (a .d) (a .extents .now) (a .weights .now) (a .least .now)
+
+-- once the lines 1 to 3 have passed
+abbrev start : tie.Else3 → tie.Start
+start e = e .before .before .before .before .before .before
+
+-- and line 4
+extents-in : (c : tie.Else4) → firstOutside (start (c .before .before) .args .extents .now) ≡ 0
+extents-in c = sym (c .before .first-outside .ensures) ∙ c .if4 .left
+
+-- and line 13
+passes : (c : tie.Else5) → Passed (job (start (c .before .before .before .before)))
+passes c =
+    let e = c .before .before .before .before in
+    passed (job (start e)) (e .before .before .if1 .left) (e .before .if2 .left) (e .if3 .left) (extents-in (c .before .before)) (sym (c .before .first-zero .ensures) ∙ c .if5 .left)
+
+refused-requires : tie.Need-refused-requires
+refused-requires c κs = search needs
+
+returns : tie.Need-returns
+returns c = c .refused .ensures ∙ sym (ap plannedOf (refused-1 (job (c .before .before .before .before .before)) (c .before .if1 .taken)))
+
+refused-requires-2 : tie.Need-refused-requires-2
+refused-requires-2 c κs = search needs
+
+returns-2 : tie.Need-returns-2
+returns-2 c = c .refused2 .ensures ∙ sym (ap plannedOf (refused-2 (job (c .before .before .before .before .before .before)) (c .before .before .if1 .left) (c .before .if2 .taken)))
+
+refused-requires-3 : tie.Need-refused-requires-3
+refused-requires-3 c κs = search needs
+
+returns-3 : tie.Need-returns-3
+returns-3 c =
+    let e = c .before .before in
+    c .refused3 .ensures ∙ sym (ap plannedOf (refused-3 (job (e .before .before .before .before .before)) (e .before .if1 .left) (e .if2 .left) (c .before .if3 .taken)))
+
+first-outside-requires : tie.Need-first-outside-requires
+first-outside-requires c κs = omega (arith, in-range-of-test 2 5 (start c .args .d) (c .before .before .if1 .left) .1, lengths-of-check (job (start c)) (c .if3 .left) .0)
+
+refused-requires-4 : tie.Need-refused-requires-4
+refused-requires-4 c κs = search needs
+
+returns-4 : tie.Need-returns-4
+returns-4 c =
+    let e = c .before .before .before in
+    let found = c .before .before .first-outside .ensures in
+    c .refused4 .ensures
+    ∙ ap (λ (n : ℕ). plannedOf (refusal 4 n)) found
+    ∙ sym (ap plannedOf (refused-4 (job (start e)) (e .before .before .if1 .left) (e .before .if2 .left) (e .if3 .left) (λ z. c .before .if4 .taken (found ∙ z))))
+
+first-zero-requires : tie.Need-first-zero-requires
+first-zero-requires c κs =
+    let e = c .before .before in
+    omega (arith, in-range-of-test 2 5 (start e .args .d) (e .before .before .if1 .left) .1, lengths-of-check (job (start e)) (e .if3 .left) .2)
+
+refused-requires-5 : tie.Need-refused-requires-5
+refused-requires-5 c κs = search needs
+
+returns-5 : tie.Need-returns-5
+returns-5 c =
+    let e = c .before .before .before .before .before in
+    let found = c .before .before .first-zero .ensures in
+    c .refused5 .ensures
+    ∙ ap (λ (n : ℕ). plannedOf (refusal 13 n)) found
+    ∙ sym (ap plannedOf
+    (refused-13 (job (start e)) (e .before .before .if1 .left) (e .before .if2 .left) (e .if3 .left) (extents-in (c .before .before .before)) (λ z. c .before .if5 .taken (found ∙ z))))
+
+answer-requires : tie.Need-answer-requires
+answer-requires c κs =
+    let all = passes c in
+    let a = start (c .before .before .before .before) .args in
+    let range = all .range in
+    (
+      record { p-low = range .p-low; p-high = range .p-high; d-low = range .d-low; d-high = range .d-high; weights-too = all .weights-many ∙ sym (all .extents-many) },
+      thick-of-places (a .extents .now) (a .least .now) (all .least-many ∙ sym (all .extents-many)) (all .least-low),
+    )
+
+returns-6 : tie.Need-returns-6
+returns-6 c =
+    let all = passes (c .before) in
+    let a = start (c .before .before .before .before .before) .args in
+    c .answer .ensures
+    ∙ ap (λ (n : ℕ). plannedOf (planWith (thickJob (a .p) n (a .extents .now) (a .weights .now) (a .least .now)) (cheapest (a .p) (a .extents .now) (a .least .now) (a .weights .now))))
+    (all .extents-many)
+    ∙ sym (ap plannedOf (plan-of-passed (thickJob (a .p) (a .d) (a .extents .now) (a .weights .now) (a .least .now)) all))
+
+pub plan-thick-spec : {M : Type 1} → statement M
+plan-thick-spec =
+    tie.close
+    (tie.spec
+    refused-requires
+    returns
+    refused-requires-2
+    returns-2
+    refused-requires-3
+    returns-3
+    first-outside-requires
+    refused-requires-4
+    returns-4
+    first-zero-requires
+    refused-requires-5
+    returns-5
+    answer-requires
+    returns-6)
