@@ -3,7 +3,7 @@
 use mathlib.Core.Path.{_≡_, sym, ap, _∙_, subst, subst⁻¹}
 use mathlib.Core.Bool.{true, not}
 use mathlib.Core.Logic.{_↔_}
-use Prim.Native.Nat.{ℕ, zero, suc, _+_, _-_, _^_, _≤_, _<_}
+use Prim.Native.Nat.{ℕ, zero, suc, _-_, _^_, _≤_, _<_}
 use native.Mathlib.Omega.{arith}
 use borrow.Author.Tests.{not-false}
 use lib.ListN.{length, replicate}
@@ -11,7 +11,7 @@ use Rattle.multipartition.specs.Answers.{answered}
 use Rattle.multipartition.specs.Cuts.{Fits}
 use Rattle.multipartition.specs.Plans.{Job, Layout, inShape}
 use Rattle.multipartition.proofs.Answers.{Small, answers-iff, checked-small}
-use Rattle.multipartition.proofs.Jobs.{job-passes-iff, first-outside-le}
+use Rattle.multipartition.proofs.Jobs.{placesOf, job-passes-iff, extent-small, least-small}
 use Rattle.multipartition.proofs.Plans.{in-shape-iff}
 use Rattle.layout.specs.Sized.{Sized}
 use Rattle.diagonal.specs.Diagonal.{diagonalPlan, sideOf, suits, sideFits, diagonalChecks, diagonalAnswer, DiagonalFor}
@@ -24,7 +24,7 @@ module _ (job : Job) (plan : Layout) where
   diagonal-told e =
       let asked = answers-iff (diagonalChecks job) (diagonalPlan job s) plan .0 e in
       let pass = asked .0 in
-      let passed = job-passes-iff job .0 (pass .0, (pass .1 .0, (pass .1 .1 .1 .0, (pass .1 .1 .1 .1 .0, tt)))) in
+      let passed = job-passes-iff job .0 (pass .0, (pass .1 .0, (pass .1 .1 .1 .0, (pass .1 .1 .1 .1 .0, (pass .1 .1 .1 .1 .1 .0, tt))))) in
       let suit = suits-facts (job .d) (job .p) .0 (not-false (suits (job .d) (job .p)) (pass .1 .1 .0)) in
       let dimensions : job .d ≡ suc (suc (job .d - 2)) = omega (arith, suit .low) in
       let low : zero < s = side-low (job .d) (job .p) in
@@ -39,8 +39,9 @@ module _ (job : Job) (plan : Layout) where
         positive = low;
         passed = passed;
         fits =
-            subst (λ (m : ℕ). Fits (job .extents) (replicate m s)) (passed .extents-many)
-            (fits-of-side s (job .extents) low (not-false (sideFits s (job .extents)) (pass .1 .1 .1 .1 .1 .0)));
+            subst (λ (m : ℕ). Fits (job .extents) (job .least) (replicate m s)) (passed .extents-many)
+            (fits-of-side s (job .extents) (job .least) low (passed .least-many ∙ sym (passed .extents-many))
+            (not-false (sideFits s (job .extents) (job .least)) (pass .1 .1 .1 .1 .1 .1 .0)));
         plan-is = sym (asked .1);
       }
     where
@@ -58,12 +59,12 @@ module _ (job : Job) (plan : Layout) where
       let pass = job-passes-iff job .1 (made .passed) in
       let found : sideOf (job .d) (job .p) ≡ made .s =
       subst⁻¹ (λ (d : ℕ). sideOf d (job .p) ≡ made .s) (made .dimensions) (side-is (made .n) (job .p) (made .s) (made .passed .range .p-low) (made .processors)) in
-      let many : Fits (job .extents) (replicate (length (job .extents)) (made .s)) =
-      subst⁻¹ (λ (m : ℕ). Fits (job .extents) (replicate m (made .s))) (made .passed .extents-many) (made .fits) in
-      let fit : sideFits (sideOf (job .d) (job .p)) (job .extents) ≡ true =
-      subst⁻¹ (λ (m : ℕ). sideFits m (job .extents) ≡ true) found (side-of-fits (made .s) (job .extents) many) in
+      let many : Fits (job .extents) (job .least) (replicate (length (job .extents)) (made .s)) =
+      subst⁻¹ (λ (m : ℕ). Fits (job .extents) (job .least) (replicate m (made .s))) (made .passed .extents-many) (made .fits) in
+      let fit : sideFits (sideOf (job .d) (job .p)) (job .extents) (job .least) ≡ true =
+      subst⁻¹ (λ (m : ℕ). sideFits m (job .extents) (job .least) ≡ true) found (side-of-fits (made .s) (job .extents) (job .least) many) in
       answers-iff (diagonalChecks job) (diagonalPlan job (sideOf (job .d) (job .p))) plan .1 (
-        (pass .0, (pass .1 .0, (ap not (diagonal-suits made), (pass .1 .1 .0, (pass .1 .1 .1 .0, (ap not fit, tt)))))),
+        (pass .0, (pass .1 .0, (ap not (diagonal-suits made), (pass .1 .1 .0, (pass .1 .1 .1 .0, (pass .1 .1 .1 .1 .0, (ap not fit, tt))))))),
         ap (diagonalPlan job) found ∙ sym (made .plan-is),
       )
 
@@ -86,10 +87,10 @@ module _ (job : Job) (plan : Layout) (e : diagonalAnswer job ≡ answered plan) 
       subst⁻¹ Sized (made .plan-is) (diagonal-sized job (made .n) (made .s) (made .dimensions) (made .processors) (made .passed) (made .fits))
 
 -- a refusal has a number from 1 on, and one of two digits
-pub diagonal-small : (job : Job) → Small (1 + length (job .extents)) (diagonalAnswer job)
+pub diagonal-small : (job : Job) → Small (placesOf job) (diagonalAnswer job)
 unfolding diagonalAnswer
 diagonal-small job =
-    checked-small (1 + length (job .extents)) (diagonalChecks job) (answered (diagonalPlan job (sideOf (job .d) (job .p)))) (
+    checked-small (placesOf job) (diagonalChecks job) (answered (diagonalPlan job (sideOf (job .d) (job .p)))) (
       (omega arith, omega arith, omega arith),
       (
         (omega arith, omega arith, omega arith),
@@ -97,7 +98,7 @@ diagonal-small job =
           (omega arith, omega arith, omega arith),
           (
             (omega arith, omega arith, omega arith),
-            ((omega arith, omega arith, first-outside-le 1 (job .extents)), ((omega arith, omega arith, omega arith), tt)),
+            (extent-small job, (least-small job, ((omega arith, omega arith, omega arith), tt))),
           ),
         ),
       ),

@@ -19,7 +19,7 @@ use Rattle.multipartition.proofs.MixedRadix.{Positive, product-positive}
 use Rattle.multipartition.proofs.WholeNumbers.{remainder-difference}
 use Rattle.multipartition.proofs.Chains.{length-listOf}
 use Rattle.multipartition.proofs.Matrix.{listOf-below}
-use Rattle.multipartition.proofs.Fitting.{fits-positive, fits-le-extent}
+use Rattle.multipartition.proofs.Fitting.{fits-positive, fits-thickness, le-mul-of-pos}
 use Rattle.layout.specs.Sized.{Sized}
 use Rattle.diagonal.specs.Diagonal.{diagonalCuts, diagonalModuli, diagonalRow, diagonalRows, diagonalMatrix, diagonalOwner, diagonalPlan}
 use Rattle.diagonal.proofs.Owners.{shifted, diagonal-owner}
@@ -103,19 +103,25 @@ entry-below n s (suc i) j l h m =
 -- ---- the plan of a job of d = n + 2 dimensions
 
 module _ (job : Job) (n s : ℕ) (dimensions : job .d ≡ suc (suc n)) (processors : s ^ suc n ≡ job .p) (passed : Passed job)
-    (fits : Fits (job .extents) (diagonalCuts (job .d) s)) where
+    (fits : Fits (job .extents) (job .least) (diagonalCuts (job .d) s)) where
   cuts-many : length (diagonalCuts (job .d) s) ≡ job .d
   cuts-many = length-replicate (job .d) s
 
   positive : zero < s
   unfolding Positive
-  positive = subst (λ (d : ℕ). Positive (diagonalCuts d s)) dimensions (fits-positive (job .extents) (diagonalCuts (job .d) s) fits) .0
+  positive = subst (λ (d : ℕ). Positive (diagonalCuts d s)) dimensions (fits-positive (job .extents) (job .least) (diagonalCuts (job .d) s) fits) .0
 
   side-high : s ≤ 4096
   side-high = le-trans (side-le n s positive) (subst⁻¹ (λ (m : ℕ). m ≤ 4096) processors (passed .range .p-high))
 
   cut-is : (k : ℕ) → k < job .d → getD (diagonalCuts (job .d) s) k 0 ≡ s
   cut-is k l = getD-replicate (job .d) k s 0 l
+
+  thick : (k : ℕ) → k < job .d → 1 ≤ getD (job .least) k 0
+  thick k l = passed .least-low k (subst⁻¹ (λ (m : ℕ). k < m) (passed .least-many) l)
+
+  rule : (k : ℕ) → k < job .d → getD (diagonalCuts (job .d) s) k 0 * getD (job .least) k 0 ≤ getD (job .extents) k 0
+  rule k l = fits-thickness (job .extents) (job .least) (diagonalCuts (job .d) s) fits k (subst⁻¹ (λ (m : ℕ). k < m) cuts-many l)
 
   pub diagonal-in-shape : InShape (diagonalPlan job s)
   diagonal-in-shape = record {
@@ -124,7 +130,7 @@ module _ (job : Job) (n s : ℕ) (dimensions : job .d ≡ suc (suc n)) (processo
     extent-range = λ k l. let inside = subst⁻¹ (λ (m : ℕ). k < m) (passed .extents-many) l in (passed .range .extent-low k inside, passed .range .extent-high k inside);
     cut-range = λ k l. (
       subst⁻¹ (λ (m : ℕ). 1 ≤ m) (cut-is k l) positive,
-      fits-le-extent (job .extents) (diagonalCuts (job .d) s) fits k (subst⁻¹ (λ (m : ℕ). k < m) cuts-many l),
+      le-mul-of-pos (getD (diagonalCuts (job .d) s) k 0) (getD (job .least) k 0) (getD (job .extents) k 0) (thick k l) (rule k l),
       subst⁻¹ (λ (m : ℕ). m ≤ 4096) (cut-is k l) side-high,
     );
     tiles-high = subst⁻¹ (λ (d : ℕ). product (diagonalCuts d s) ≤ 16777216) dimensions (mul-le-mul side-high tiles);
@@ -135,6 +141,8 @@ module _ (job : Job) (n s : ℕ) (dimensions : job .d ≡ suc (suc n)) (processo
         subst⁻¹ (λ (d : ℕ). entryAt (diagonalMatrix d s) i j < getD (diagonalModuli d s) i 0) dimensions
         (entry-below (suc n) s i j positive (subst (λ (d : ℕ). i < d) dimensions l) (subst (λ (d : ℕ). j < d) dimensions m));
     kind-high = le-refl 1;
+    least-low = thick;
+    least-fits = rule;
   }
     where
       tiles : product (replicate (suc n) s) ≤ 4096
@@ -147,6 +155,7 @@ module _ (job : Job) (n s : ℕ) (dimensions : job .d ≡ suc (suc n)) (processo
     extents-length = passed .extents-many;
     weights-length = passed .weights-many;
     cuts-length = cuts-many;
+    least-length = passed .least-many;
     moduli-length = subst⁻¹ (λ (d : ℕ). length (diagonalModuli d s) ≡ d) dimensions moduli-many;
     matrix-length = subst⁻¹ (λ (d : ℕ). length (diagonalMatrix d s) ≡ d) dimensions matrix-many;
     row-length = subst⁻¹ (λ (d : ℕ). (i : ℕ) → i < d → length (getD (diagonalMatrix d s) i []) ≡ d) dimensions row-many;

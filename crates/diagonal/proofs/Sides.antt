@@ -13,7 +13,7 @@ use Rattle.multipartition.specs.Cuts.{Fits}
 use Rattle.multipartition.specs.Lists.{firstSuch}
 use Rattle.multipartition.specs.Plans.{between}
 use Rattle.multipartition.proofs.Tests.{and-iff, allBelow-true-iff, eqb-iff, leb-iff, between-true-iff, by-cond}
-use Rattle.multipartition.proofs.Fitting.{fits-le-extent}
+use Rattle.multipartition.proofs.Fitting.{fits-thickness}
 use Rattle.multipartition.proofs.Searches.{first-such-low, first-such-passes, first-such-only}
 use Rattle.diagonal.specs.Diagonal.{isSide, sideOf, suits, suitedSide, sideFits}
 
@@ -170,19 +170,24 @@ root-none p s below above =
 
 -- ---- the cuts fit
 
-pub fits-of-side : (s : ℕ) (extents : List ℕ) → zero < s → sideFits s extents ≡ true → Fits extents (replicate (length extents) s)
+pub fits-of-side : (s : ℕ) (extents least : List ℕ) → zero < s → length least ≡ length extents → sideFits s extents least ≡ true
+    → Fits extents least (replicate (length extents) s)
 unfolding sideFits
-fits-of-side s extents l e =
-    all-fit extents (λ k m. leb-iff s (getD extents k 0) .0 (allBelow-true-iff (length extents) (λ k. leb s (getD extents k 0)) .0 e k m))
+fits-of-side s extents least l many e =
+    all-fit extents least many
+    (λ k m. leb-iff (s * getD least k 0) (getD extents k 0) .0 (allBelow-true-iff (length extents) (λ k. leb (s * getD least k 0) (getD extents k 0)) .0 e k m))
   where
-    all-fit : (extents : List ℕ) → ((k : ℕ) → k < length extents → s ≤ getD extents k 0) → Fits extents (replicate (length extents) s)
-    all-fit [] h = tt
-    all-fit (n ∷ extents) h = (l, h 0 (omega arith), all-fit extents (λ k m. h (suc k) (omega arith)))
+    all-fit : (extents least : List ℕ) → length least ≡ length extents → ((k : ℕ) → k < length extents → s * getD least k 0 ≤ getD extents k 0)
+        → Fits extents least (replicate (length extents) s)
+    all-fit [] [] e h = tt
+    all-fit [] (t ∷ least) e h = absurd (omega arith)
+    all-fit (n ∷ extents) [] e h = absurd (omega arith)
+    all-fit (n ∷ extents) (t ∷ least) e h = (l, h 0 (omega arith), all-fit extents least (omega arith) (λ k m. h (suc k) (omega arith)))
 
-pub side-of-fits : (s : ℕ) (extents : List ℕ) → Fits extents (replicate (length extents) s) → sideFits s extents ≡ true
+pub side-of-fits : (s : ℕ) (extents least : List ℕ) → Fits extents least (replicate (length extents) s) → sideFits s extents least ≡ true
 unfolding sideFits
-side-of-fits s extents fits =
-    allBelow-true-iff (length extents) (λ k. leb s (getD extents k 0)) .1
-    (λ k l. leb-iff s (getD extents k 0) .1
-    (subst (λ (b : ℕ). b ≤ getD extents k 0) (getD-replicate (length extents) k s 0 l)
-    (fits-le-extent extents (replicate (length extents) s) fits k (subst⁻¹ (λ (m : ℕ). k < m) (length-replicate (length extents) s) l))))
+side-of-fits s extents least fits =
+    allBelow-true-iff (length extents) (λ k. leb (s * getD least k 0) (getD extents k 0)) .1
+    (λ k l. leb-iff (s * getD least k 0) (getD extents k 0) .1
+    (subst (λ (b : ℕ). b * getD least k 0 ≤ getD extents k 0) (getD-replicate (length extents) k s 0 l)
+    (fits-thickness extents least (replicate (length extents) s) fits k (subst⁻¹ (λ (m : ℕ). k < m) (length-replicate (length extents) s) l))))

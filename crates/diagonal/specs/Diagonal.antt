@@ -12,7 +12,7 @@ use Rattle.multipartition.specs.Lists.{allBelow, firstSuch, listOf}
 use Rattle.multipartition.specs.Cuts.{Fits, costOf}
 use Rattle.multipartition.specs.Owners.{ownerAt}
 use Rattle.multipartition.specs.Plans.{Job, Layout, between}
-use Rattle.multipartition.specs.Jobs.{Passed, dimensionsCheck, processorsCheck, suitsCheck, lengthsCheck, extentsCheck}
+use Rattle.multipartition.specs.Jobs.{Passed, dimensionsCheck, processorsCheck, suitsCheck, lengthsCheck, extentsCheck, leastCheck}
 
 -- "For d = 2 there are p cuts each way", for d = 3 "s cuts each way"
 abbrev pub diagonalCuts : ℕ → ℕ → List ℕ
@@ -54,6 +54,7 @@ diagonalPlan job s = record {
   moduli = diagonalModuli (job .d) s;
   matrix = diagonalMatrix (job .d) s;
   kind = 1;
+  least = job .least;
 }
 
 -- "p = s·s", and p = s for d = 2: s is the side of the layout for p processors
@@ -72,11 +73,11 @@ suits d p = between 2 3 d && leb (sideOf d p) p
 abbrev pub suitedSide : ℕ → ℕ → ℕ
 suitedSide d p = cond (suits d p) (sideOf d p) (p + 1)
 
--- no cut is above its extent
-unfoldable pub sideFits : ℕ → List ℕ → Bool
-sideFits s extents = allBelow (length extents) (λ k. leb s (getD extents k 0))
+-- "Cuts fit only if bk times the least thickness of k is at most nk, .. for diagonal plans" (request g)
+unfoldable pub sideFits : ℕ → List ℕ → List ℕ → Bool
+sideFits s extents least = allBelow (length extents) (λ k. leb (s * getD least k 0) (getD extents k 0))
 
--- "12 .. after 2 and before 3; a cut above its extent stays a 5"
+-- "12 .. after 2 and before 3; a cut above its extent stays a 5"; request g: 13 "after 4 and before 5"
 abbrev pub diagonalChecks : Job → List Check
 diagonalChecks job =
     dimensionsCheck (job .d)
@@ -84,7 +85,8 @@ diagonalChecks job =
     ∷ suitsCheck (suits (job .d) (job .p))
     ∷ lengthsCheck job
     ∷ extentsCheck job
-    ∷ record { fails = not (sideFits (sideOf (job .d) (job .p)) (job .extents)); number = 5; place = 0 }
+    ∷ leastCheck job
+    ∷ record { fails = not (sideFits (sideOf (job .d) (job .p)) (job .extents) (job .least)); number = 5; place = 0 }
     ∷ []
 
 -- the answer to a job: its diagonal plan
@@ -101,8 +103,8 @@ pub record DiagonalFor (job : Job) (plan : Layout) : Type 0 where
   pub s : ℕ
   pub positive : 1 ≤ s
   pub processors : s ^ suc n ≡ job .p
-  -- the lines 1 to 4 of the table pass
+  -- the lines 1 to 4 of the table and 13 pass
   pub passed : Passed job
-  -- no cut is above its extent
-  pub fits : Fits (job .extents) (diagonalCuts (job .d) s)
+  -- the cuts fit
+  pub fits : Fits (job .extents) (job .least) (diagonalCuts (job .d) s)
   pub plan-is : plan ≡ diagonalPlan job s

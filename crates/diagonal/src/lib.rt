@@ -2,13 +2,15 @@
 use layout::Plan;
 use planner::Planned;
 use planner::first_outside;
+use planner::first_zero;
 use planner::refused;
 ghost use mathlib.Core.Path.{_≡_};
 ghost use mathlib.Core.List.{_++_, _∷_};
 ghost use Prim.Native.Nat.{_-_, _*_, _^_, _≤_};
+ghost use lib.Dec.{leb};
 ghost use lib.ListN.{length, replicate, take};
 ghost use Rattle.multipartition.specs.Cuts.{cutCost, costOf};
-ghost use Rattle.multipartition.specs.Plans.{jobWith};
+ghost use Rattle.multipartition.specs.Plans.{thickJob, jobWith};
 ghost use Rattle.layout.specs.Plans.{five, flat, planOf};
 ghost use Rattle.planner.specs.Planned.{plannedOf};
 ghost use Rattle.diagonal.specs.Diagonal.{diagonalCuts, diagonalMatrix, diagonalPlan, suitedSide, sideFits, diagonalAnswer};
@@ -54,13 +56,21 @@ fn side_of(d: usize, p: u32) -> u32
     p + 1
 }
 
-// Whether no cut is above its extent.
-fn side_fits(s: u32, extents: &[u32]) -> bool
-    ensures { λ r. ⌜ r ≡ sideFits s (now (extents .entry)) ⌝ }
+// Whether s slabs of a least thickness fit an extent.
+fn slabs_fit(s: u32, extent: u32, least: u32) -> bool
+    ensures { λ r. ⌜ r ≡ leb (s * least) extent ⌝ }
+{
+    s as u64 * least as u64 <= extent as u64
+}
+
+// Whether s cuts each way fit.
+fn side_fits<'a>(s: u32, extents: &'a [u32], least: &'a [u32]) -> bool
+    requires { ⌜ length (now least) ≡ length (now extents) ⌝ }
+    ensures { λ r. ⌜ r ≡ sideFits s (now (extents .entry)) (now (least .entry)) ⌝ }
 {
     let mut ok = true;
     for k in 0..extents.len() {
-        ok = ok & (s <= extents[k]);
+        ok = ok & slabs_fit(s, extents[k], least[k]);
     }
     ok
 }
@@ -126,9 +136,15 @@ fn matrix_of(d: usize, s: u32) -> [u32; 25]
 }
 
 // The plan with s cuts each way.
-fn plan_with(p: u32, s: u32, extents: &[u32], weights: &[u32]) -> Plan
-    requires { ⌜ (2 ≤ length (now extents)) × (length (now extents) ≤ 3) × (length (now weights) ≡ length (now extents)) × (1 ≤ s) × (s ≤ 4096) ⌝ }
-    ensures { λ r. ⌜ r ≡ planOf (diagonalPlan (jobWith p (length (now (extents .entry))) (now (extents .entry)) (now (weights .entry))) s) ⌝ }
+fn plan_with<'a>(
+    p: u32,
+    s: u32,
+    extents: &'a [u32],
+    weights: &'a [u32],
+    least: &'a [u32],
+) -> Plan
+    requires { ⌜ (2 ≤ length (now extents)) × (length (now extents) ≤ 3) × (length (now weights) ≡ length (now extents)) × (length (now least) ≡ length (now extents)) × (1 ≤ s) × (s ≤ 4096) ⌝ }
+    ensures { λ r. ⌜ r ≡ planOf (diagonalPlan (thickJob p (length (now (extents .entry))) (now (extents .entry)) (now (weights .entry)) (now (least .entry))) s) ⌝ }
 {
     let d = extents.len();
     Plan {
@@ -141,12 +157,19 @@ fn plan_with(p: u32, s: u32, extents: &[u32], weights: &[u32]) -> Plan
         moduli: with_sides(d, 1, s),
         matrix: matrix_of(d, s),
         kind: 1,
+        least: padded(least),
     }
 }
 
-// The answer to a job: its diagonal plan.
-pub fn diagonal_job(p: u32, d: usize, extents: &[u32], weights: &[u32]) -> Planned
-    ensures { λ r. ⌜ r ≡ plannedOf (diagonalAnswer (jobWith p d (now (extents .entry)) (now (weights .entry)))) ⌝ }
+// The answer to a job with a list of least thicknesses: its diagonal plan.
+fn diagonal_thick<'a>(
+    p: u32,
+    d: usize,
+    extents: &'a [u32],
+    weights: &'a [u32],
+    least: &'a [u32],
+) -> Planned
+    ensures { λ r. ⌜ r ≡ plannedOf (diagonalAnswer (thickJob p d (now (extents .entry)) (now (weights .entry)) (now (least .entry)))) ⌝ }
 {
     if (d < 2) | (5 < d) {
         return refused(1, 0);
@@ -158,19 +181,43 @@ pub fn diagonal_job(p: u32, d: usize, extents: &[u32], weights: &[u32]) -> Plann
     if p < s {
         return refused(12, 0);
     }
-    if (extents.len() != d) | (weights.len() != d) {
+    if (extents.len() != d) | (weights.len() != d) | (least.len() != d) {
         return refused(3, 0);
     }
     let outside = first_outside(extents);
     if outside != 0 {
         return refused(4, outside);
     }
-    if !side_fits(s, extents) {
+    let zero = first_zero(least);
+    if zero != 0 {
+        return refused(13, zero);
+    }
+    if !side_fits(s, extents, least) {
         return refused(5, 0);
     }
     Planned {
         number: 0,
         place: 0,
-        plan: plan_with(p, s, extents, weights),
+        plan: plan_with(p, s, extents, weights, least),
     }
+}
+
+// The answer to a job: its diagonal plan. An empty list of least thicknesses stands for 1 in every dimension.
+pub fn diagonal_job<'a>(
+    p: u32,
+    d: usize,
+    extents: &'a [u32],
+    weights: &'a [u32],
+    least: &'a [u32],
+) -> Planned
+    ensures { λ r. ⌜ r ≡ plannedOf (diagonalAnswer (jobWith p d (now (extents .entry)) (now (weights .entry)) (now (least .entry)))) ⌝ }
+{
+    if least.len() != 0 {
+        return diagonal_thick(p, d, extents, weights, least);
+    }
+    if 5 < d {
+        return refused(1, 0);
+    }
+    let ones: [u32; 5] = [1; 5];
+    diagonal_thick(p, d, extents, weights, &ones[0..d])
 }
