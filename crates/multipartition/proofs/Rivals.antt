@@ -18,6 +18,7 @@ use Rattle.multipartition.proofs.Cheapest.{cheapest-within, cheapest-ev
 use Rattle.multipartition.proofs.Moduli.{othersDown, othersDown-reverse}
 use Rattle.multipartition.proofs.GridSums.{placeDown-reverse, inside-reverse, equal-shares, held-slabTotal}
 use Rattle.multipartition.proofs.Owners.{owner-below, owners-balanced}
+use Rattle.multipartition.proofs.MixedRadix.{Positive}
 use Rattle.multipartition.proofs.Fitting.{within-positive}
 use Rattle.multipartition.proofs.Minimal.{positive-at}
 
@@ -40,13 +41,17 @@ dvd-of-equal-shares p (b1 ∷ cuts) owner l below k s h m equal =
         (λ i1 x a w. below (i1 ∷ reverse x) (a, inside-reverse cuts x w))
         (λ q o. sym (held-slabTotal b1 cuts owner k s q (le-of-suc-le-suc h) m) ∙ equal q 0 o l)
 
+-- a balanced rival has even cuts, whatever its owners and whatever the class of its cuts, if none in the class is 0
+pub even-of-balanced : (p : ℕ) {Class : List ℕ → Type 0} → zero < p → ((cuts : List ℕ) → Class cuts → Positive cuts)
+    → (rival : RivalAmong p Class) → Balanced p (rival .cuts) (rival .owner) → Even p (rival .cuts)
+unfolding Balanced
+even-of-balanced p l positive rival balanced k h =
+    let some : zero < getD (rival .cuts) k 0 = positive-at (rival .cuts) (positive (rival .cuts) (rival .member)) k h in
+    dvd-of-equal-shares p (rival .cuts) (rival .owner) l (rival .below) k 0 h some (balanced k 0 h some)
+
 module _ (p : ℕ) (most : List ℕ) (l : zero < p) where
-  -- a balanced rival has even cuts, whatever its owners
-  pub even-of-balanced : (rival : RivalAmong p (Within most)) → Balanced p (rival .cuts) (rival .owner) → Even p (rival .cuts)
-  unfolding Balanced
-  even-of-balanced rival balanced k h =
-      let positive : zero < getD (rival .cuts) k 0 = positive-at (rival .cuts) (within-positive most (rival .cuts) (rival .member)) k h in
-      dvd-of-equal-shares p (rival .cuts) (rival .owner) l (rival .below) k 0 h positive (balanced k 0 h positive)
+  even-within : (rival : RivalAmong p (Within most)) → Balanced p (rival .cuts) (rival .owner) → Even p (rival .cuts)
+  even-within = even-of-balanced p l (within-positive most)
 
   -- the planner's owners on such cuts are a rival
   unfoldable ours : (cuts : List ℕ) → Within most cuts → RivalAmong p (Within most)
@@ -58,7 +63,7 @@ module _ (p : ℕ) (most : List ℕ) (l : zero < p) where
   balanced-iff-even = (there, back)
     where
       there : (rival : RivalAmong p (Within most)) × Balanced p (rival .cuts) (rival .owner) → (cuts : List ℕ) × Within most cuts × Even p cuts
-      there (rival, balanced) = (rival .cuts, rival .member, even-of-balanced rival balanced)
+      there (rival, balanced) = (rival .cuts, rival .member, even-within rival balanced)
 
       back : (cuts : List ℕ) × Within most cuts × Even p cuts → (rival : RivalAmong p (Within most)) × Balanced p (rival .cuts) (rival .owner)
       back (cuts, within, even) = (ours cuts within, owners-balanced p cuts l even)
@@ -72,7 +77,7 @@ module _ (p : ℕ) (most : List ℕ) (l : zero < p) where
       there (rival, balanced) = go (cheapestWithin p most weights) refl
         where
           go : (answer : Option (List ℕ)) → cheapestWithin p most weights ≡ answer → (cuts : List ℕ) × (cheapestWithin p most weights ≡ some cuts)
-          go none e = absurd (cheapest-none p most weights (rival .cuts) e (rival .member) (even-of-balanced rival balanced))
+          go none e = absurd (cheapest-none p most weights (rival .cuts) e (rival .member) (even-within rival balanced))
           go (some cuts) e = (cuts, e)
 
       back : (cuts : List ℕ) × (cheapestWithin p most weights ≡ some cuts) → (rival : RivalAmong p (Within most)) × Balanced p (rival .cuts) (rival .owner)
@@ -82,11 +87,11 @@ module _ (p : ℕ) (most : List ℕ) (l : zero < p) where
   pub cheapest-no-dearer : (weights cuts : List ℕ) → cheapestWithin p most weights ≡ some cuts
       → (rival : RivalAmong p (Within most)) → Balanced p (rival .cuts) (rival .owner) → costOf weights cuts ≤ costOf weights (rival .cuts)
   cheapest-no-dearer weights cuts e rival balanced =
-      cheapest-le p most weights cuts (rival .cuts) e (rival .member) (even-of-balanced rival balanced)
+      cheapest-le p most weights cuts (rival .cuts) e (rival .member) (even-within rival balanced)
 
   -- and no balanced rival of equal cost has fewer tiles
   pub cheapest-no-more-tiles : (weights cuts : List ℕ) → cheapestWithin p most weights ≡ some cuts
       → (rival : RivalAmong p (Within most)) → Balanced p (rival .cuts) (rival .owner) → costOf weights cuts ≡ costOf weights (rival .cuts)
       → product cuts ≤ product (rival .cuts)
   cheapest-no-more-tiles weights cuts e rival balanced =
-      precedes-tiles-le weights cuts (rival .cuts) (cheapest-precedes p most weights cuts (rival .cuts) e (rival .member) (even-of-balanced rival balanced))
+      precedes-tiles-le weights cuts (rival .cuts) (cheapest-precedes p most weights cuts (rival .cuts) e (rival .member) (even-within rival balanced))

@@ -6,7 +6,6 @@ use mathlib.Core.Option.{Option, none, some, Option·none-ne-some}
 use mathlib.Core.Path.{_≡_, refl, sym, ap, _∙_, subst, subst⁻¹}
 use Prim.Native.Nat.{ℕ, zero, _≤_, _<_}
 use native.Mathlib.Omega.{arith}
-use lib.ListN.{length}
 use Rattle.multipartition.specs.Answers.{Answer, answered}
 use Rattle.multipartition.specs.Cuts.{Even, costOf}
 use Rattle.multipartition.specs.Jobs.{PlanFor, Passed, cheapestFor, planWith, planAnswer}
@@ -34,7 +33,7 @@ module _ (job : Job) (plan : Plan) (e : planAnswer job ≡ answered (layoutOf pl
   some-processor = made .passed .range .p-low
 
   cuts-even : Even (job .p) (cutsOf plan)
-  cuts-even = chosen-even job (cutsOf plan) (made .cuts-are)
+  cuts-even = chosen-even job (made .passed) (cutsOf plan) (made .cuts-are)
 
   cost-is : plan .cost ≡ costOf (job .weights) (cutsOf plan)
   unfolding layoutOf
@@ -59,16 +58,16 @@ module _ (job : Job) (plan : Plan) (e : planAnswer job ≡ answered (layoutOf pl
   ours = record {
     kind-is = ap (λ (l : Layout). l .kind) (made .plan-is);
     even =
-        even-plan job plan held-job shaped (chosen-fits job (cutsOf plan) (made .cuts-are))
+        even-plan job plan held-job shaped (chosen-fits job (made .passed) (cutsOf plan) (made .cuts-are))
         (λ k s q l m o.
         ap (λ (own : List ℕ → ℕ). held (cutsOf plan) own k s q) owners-are ∙ even-owners (job .p) (cutsOf plan) some-processor cuts-even k s q l m o)
         cost-is;
     cheapest-of-all = λ rival balanced.
-        subst⁻¹ (λ (n : ℕ). n ≤ costOf (job .weights) (rival .cuts)) cost-is (chosen-no-dearer job (cutsOf plan) (made .cuts-are) some-processor rival balanced);
+        subst⁻¹ (λ (n : ℕ). n ≤ costOf (job .weights) (rival .cuts)) cost-is (chosen-no-dearer job (made .passed) (cutsOf plan) (made .cuts-are) rival balanced);
     fewest-of-equals = λ rival balanced equal.
-        chosen-no-more-tiles job (cutsOf plan) (made .cuts-are) some-processor rival balanced (sym cost-is ∙ equal);
+        chosen-no-more-tiles job (made .passed) (cutsOf plan) (made .cuts-are) rival balanced (sym cost-is ∙ equal);
     faces-differ = λ x y w v face same-owner.
-        faces-differ (job .p) (cutsOf plan) some-processor (chosen-minimal job (cutsOf plan) (made .cuts-are)) x y w v face
+        faces-differ (job .p) (cutsOf plan) some-processor (chosen-minimal job (made .passed) (cutsOf plan) (made .cuts-are)) x y w v face
         (sym (owner-of x w) ∙ same-owner ∙ owner-of y v);
   }
 
@@ -84,7 +83,7 @@ demand-3 job passed = go (cheapestFor job) refl
         (record {
           accepts = (
             (λ (z : _≡_ {A = ℕ} 5 0). absurd (omega arith)),
-            λ rival. absurd (Option·none-ne-some _ (sym e ∙ balanced-iff-chosen job (passed .range .p-low) .0 rival .1)),
+            λ rival. absurd (Option·none-ne-some _ (sym e ∙ balanced-iff-chosen job passed .0 rival .1)),
           );
           refuses = inr refl;
           ours = λ (z : _≡_ {A = ℕ} 5 0). absurd (omega arith);
@@ -92,13 +91,11 @@ demand-3 job passed = go (cheapestFor job) refl
     go (some cuts) e =
         let answers : planAnswer job ≡ answered (layoutWith job cuts) =
         plan-of-passed job passed ∙ ap (planWith job) e in
-        let many : length cuts ≡ job .d = chosen-length job cuts e ∙ passed .extents-many in
         let back : layoutOf (planOf (layoutWith job cuts)) ≡ layoutWith job cuts =
-        layout-of-plan (layoutWith job cuts)
-        (layout-with-sized job cuts (omega (arith, passed .range .d-high, passed .extents-many)) (passed .extents-many) (passed .weights-many) many) in
+        layout-of-plan (layoutWith job cuts) (layout-with-sized job cuts passed (chosen-length job passed cuts e)) in
         subst⁻¹ (λ (a : Answer Layout). Demand3 job (plannedOf a)) answers
         (record {
-          accepts = ((λ z. balanced-iff-chosen job (passed .range .p-low) .1 (cuts, e)), λ rival. refl);
+          accepts = ((λ z. balanced-iff-chosen job passed .1 (cuts, e)), λ rival. refl);
           refuses = inl refl;
           ours = λ z. ours job (planOf (layoutWith job cuts)) (answers ∙ ap answered (sym back));
         })

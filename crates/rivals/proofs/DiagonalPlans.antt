@@ -14,6 +14,7 @@ use Rattle.multipartition.specs.Questions.{ownerBy}
 use Rattle.multipartition.specs.Rivals.{Rival, held}
 use Rattle.multipartition.specs.Tiles.{Inside}
 use Rattle.multipartition.proofs.Answers.{Small}
+use Rattle.multipartition.proofs.Jobs.{placesOf}
 use Rattle.layout.specs.declared.Plan.{Plan}
 use Rattle.layout.specs.Plans.{layoutOf, planOf}
 use Rattle.layout.proofs.Plans.{layout-of-plan}
@@ -66,7 +67,7 @@ module _ (job : Job) (plan : Plan) (shaped : inShape (layoutOf plan) ≡ true) (
   even : EvenPlan job plan
   unfolding diagonalOwner
   even =
-      even-plan job plan held-job shaped (subst⁻¹ (Fits (job .extents)) cuts-are (made .fits))
+      even-plan job plan held-job shaped (subst⁻¹ (Fits (job .extents) (job .least)) cuts-are (made .fits))
       (subst⁻¹ (λ (l : Layout). (k v q : ℕ) → k < length (l .cuts) → v < getD (l .cuts) k 0 → q < job .p
       → held (l .cuts) (ownerBy l) k v q ≡ product (l .cuts) / (getD (l .cuts) k 0 * job .p)) (made .plan-is)
       (shares job (made .n) (made .s) (made .dimensions) (made .processors)))
@@ -135,7 +136,7 @@ diagonal-plans job = go (diagonalAnswer job) refl
         let back : diagonalAnswer job ≡ answered (layoutOf (planOf l)) = e ∙ ap answered (sym (layout-of-plan l (diagonal-answer-sized job l e))) in
         diagonal job (planOf l) (diagonal-answer-in-shape job (layoutOf (planOf l)) back) (diagonal-answered job (layoutOf (planOf l)) .0 back)
     go (refused number place) e z =
-        let small = subst (Small (1 + length (job .extents))) e (diagonal-small job) in absurd (omega (arith, small .0, z))
+        let small = subst (Small (placesOf job)) e (diagonal-small job) in absurd (omega (arith, small .0, z))
 
 -- so every plan that the diagonal call answers is even
 pub diagonal-even : (job : Job) (layout : Layout) → diagonalAnswer job ≡ answered layout → EvenPlan job (planOf layout)

@@ -16,6 +16,7 @@ use Rattle.multipartition.specs.Questions.{ownerBy, ownerAnswer, neighbourAnswe
 use Rattle.multipartition.specs.Rivals.{Rival, held, Balanced}
 use Rattle.multipartition.specs.Tiles.{Inside, oneStepOn}
 use Rattle.multipartition.proofs.BothWays.{owner-answered, neighbour-answered}
+use Rattle.multipartition.proofs.Fitting.{fits-positive}
 use Rattle.multipartition.proofs.GridSums.{total-ext, held-total}
 use Rattle.multipartition.proofs.Owners.{owner-below-product, share-exact}
 use Rattle.multipartition.proofs.Plans.{in-shape-moduli-positive, in-shape-neighbour-owns, moduli-checked}
@@ -81,10 +82,10 @@ module _ (job : Job) (plan : Plan) (held-job : jobOf (layoutOf plan) ≡ job) (s
       cc
 
   -- as a rival
-  abbrev pub rivalOf : Fits (job .extents) (cutsOf plan) → Rival job
+  abbrev pub rivalOf : Fits (job .extents) (job .least) (cutsOf plan) → Rival job
   rivalOf fits = record { cuts = cutsOf plan; member = fits; owner = ownerIn plan; below = owner-is-processor }
 
-  pub even-plan : Fits (job .extents) (cutsOf plan)
+  pub even-plan : Fits (job .extents) (job .least) (cutsOf plan)
       → ((k s q : ℕ) → k < length (cutsOf plan) → s < getD (cutsOf plan) k 0 → q < job .p
       → held (cutsOf plan) (ownerBy (layoutOf plan)) k s q ≡ product (cutsOf plan) / (getD (cutsOf plan) k 0 * job .p))
       → plan .cost ≡ costOf (job .weights) (cutsOf plan) → EvenPlan job plan
@@ -115,4 +116,4 @@ module _ (job : Job) (plan : Plan) (held-job : jobOf (layoutOf plan) ≡ job) (s
       some-processor = subst (λ (n : ℕ). 1 ≤ n) p-is (moduli-checked (layoutOf plan) shaped .0)
 
       even-cuts : Even (job .p) (cutsOf plan)
-      even-cuts = even-of-balanced (job .p) (job .extents) some-processor (rivalOf fits) balanced-are
+      even-cuts = even-of-balanced (job .p) some-processor (fits-positive (job .extents) (job .least)) (rivalOf fits) balanced-are

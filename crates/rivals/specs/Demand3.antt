@@ -34,11 +34,11 @@ ownerIn plan position = processorIn (ownerAnswer (layoutOf plan) position)
 
 -- What holds of a plan that shares out a job's grid evenly: of every plan that the planner answers, and of every diagonal plan.
 pub record EvenPlan (job : Job) (plan : Plan) : Type 0 where
-  -- it is the job's: "A plan holds d, p, extents, weights"
+  -- it is the job's: "A plan holds d, p, extents, weights", and its least thicknesses
   pub holds-job : jobOf (layoutOf plan) ≡ job
   -- no question about it is refused with 6
   pub in-shape : inShape (layoutOf plan) ≡ true
-  pub fits : Fits (job .extents) (cutsOf plan)
+  pub fits : Fits (job .extents) (job .least) (cutsOf plan)
   -- the owner question names a processor for every tile
   pub owner-answered : (x : List ℕ) → Inside (cutsOf plan) x → ownerAnswer (layoutOf plan) x ≡ answered (ownerIn plan x)
   pub owner-below : (x : List ℕ) → Inside (cutsOf plan) x → ownerIn plan x < job .p
