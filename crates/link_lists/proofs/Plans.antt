@@ -7,7 +7,7 @@ use native.Mathlib.Nat.{div-add-mod'}
 use native.Mathlib.Omega.{arith}
 use lib.Dec.{lit≤}
 use lib.ListN.{length, getD, set, take, drop, replicate, length-append, length-replicate, length-drop}
-use lib.Seq.{sets, length-take-le, take-at, drop-at, drop-drop, getD-drop}
+use lib.Seq.{sets, length-take-le, take-all, take-at, drop-at, drop-drop, getD-drop}
 use Rattle.multipartition.specs.Plans.{Layout, inShape}
 use Rattle.multipartition.specs.Questions.{ownerAnswer, neighbourAnswer}
 use Rattle.layout.specs.declared.Plan.{Plan}
@@ -28,6 +28,7 @@ arrays-of-layout layout =
       cuts-places = length-front 5 (layout .cuts);
       moduli-places = length-front 5 (layout .moduli);
       matrix-places = length-front 25 (flat (layout .matrix));
+      least-places = length-front 5 (layout .least);
     }
   where
     length-front : (n : ℕ) (xs : List ℕ) → length (take n (xs ++ replicate n 0)) ≡ n
@@ -41,7 +42,7 @@ take-part list part rest at n e l = ap (take n) e ∙ take-at part rest n l
 
 module _ (plan : Plan) (arrays : Arrays plan) where
   abbrev from-moduli : List ℕ
-  from-moduli = plan .moduli ++ (plan .matrix ++ (plan .kind ∷ []))
+  from-moduli = plan .moduli ++ (plan .matrix ++ (plan .kind ∷ plan .least))
 
   abbrev from-cost : List ℕ
   from-cost = plan .cost % 4294967296 ∷ plan .cost / 4294967296 ∷ from-moduli
@@ -59,11 +60,14 @@ module _ (plan : Plan) (arrays : Arrays plan) where
   moduli-on : drop 19 (listOfPlan plan) ≡ from-moduli
   moduli-on = sym (drop-drop 2 17 (listOfPlan plan)) ∙ ap (drop 2) cost-on
 
-  matrix-on : drop 24 (listOfPlan plan) ≡ plan .matrix ++ (plan .kind ∷ [])
-  matrix-on = drop-part (listOfPlan plan) (plan .moduli) (plan .matrix ++ (plan .kind ∷ [])) 19 5 moduli-on (arrays .moduli-places)
+  matrix-on : drop 24 (listOfPlan plan) ≡ plan .matrix ++ (plan .kind ∷ plan .least)
+  matrix-on = drop-part (listOfPlan plan) (plan .moduli) (plan .matrix ++ (plan .kind ∷ plan .least)) 19 5 moduli-on (arrays .moduli-places)
 
-  kind-on : drop 49 (listOfPlan plan) ≡ plan .kind ∷ []
-  kind-on = drop-part (listOfPlan plan) (plan .matrix) (plan .kind ∷ []) 24 25 matrix-on (arrays .matrix-places)
+  kind-on : drop 49 (listOfPlan plan) ≡ plan .kind ∷ plan .least
+  kind-on = drop-part (listOfPlan plan) (plan .matrix) (plan .kind ∷ plan .least) 24 25 matrix-on (arrays .matrix-places)
+
+  least-on : drop 50 (listOfPlan plan) ≡ plan .least
+  least-on = sym (drop-drop 1 49 (listOfPlan plan)) ∙ ap (drop 1) kind-on
 
   pub extents-in : take 5 (drop 2 (listOfPlan plan)) ≡ plan .extents
   unfolding listOfPlan
@@ -76,10 +80,10 @@ module _ (plan : Plan) (arrays : Arrays plan) where
   cuts-in = take-part (listOfPlan plan) (plan .cuts) from-cost 12 5 cuts-on (arrays .cuts-places)
 
   pub moduli-in : take 5 (drop 19 (listOfPlan plan)) ≡ plan .moduli
-  moduli-in = take-part (listOfPlan plan) (plan .moduli) (plan .matrix ++ (plan .kind ∷ [])) 19 5 moduli-on (arrays .moduli-places)
+  moduli-in = take-part (listOfPlan plan) (plan .moduli) (plan .matrix ++ (plan .kind ∷ plan .least)) 19 5 moduli-on (arrays .moduli-places)
 
   pub matrix-in : take 25 (drop 24 (listOfPlan plan)) ≡ plan .matrix
-  matrix-in = take-part (listOfPlan plan) (plan .matrix) (plan .kind ∷ []) 24 25 matrix-on (arrays .matrix-places)
+  matrix-in = take-part (listOfPlan plan) (plan .matrix) (plan .kind ∷ plan .least) 24 25 matrix-on (arrays .matrix-places)
 
   pub cost-low-in : getD (listOfPlan plan) 17 0 ≡ plan .cost % 4294967296
   cost-low-in = sym (getD-drop 17 (listOfPlan plan) 0 0) ∙ ap (λ (l : List ℕ). getD l 0 0) cost-on
@@ -90,24 +94,27 @@ module _ (plan : Plan) (arrays : Arrays plan) where
   pub kind-in : getD (listOfPlan plan) 49 0 ≡ plan .kind
   kind-in = sym (getD-drop 49 (listOfPlan plan) 0 0) ∙ ap (λ (l : List ℕ). getD l 0 0) kind-on
 
+  pub least-in : take 5 (drop 50 (listOfPlan plan)) ≡ plan .least
+  least-in = ap (take 5) least-on ∙ take-all 5 (plan .least) (omega (arith, arrays .least-places))
+
   pub plan-in-list : planIn (listOfPlan plan) ≡ plan
   unfolding planIn listOfPlan
   plan-in-list =
       let whole : plan .cost % 4294967296 + 4294967296 * (plan .cost / 4294967296) ≡ plan .cost = omega (arith, div-add-mod' (plan .cost) 4294967296) in
-      rw (extents-in, weights-in, cuts-in, cost-low-in, cost-high-in, whole, moduli-in, matrix-in, kind-in)
+      rw (extents-in, weights-in, cuts-in, cost-low-in, cost-high-in, whole, moduli-in, matrix-in, kind-in, least-in)
 
   pub length-list : length (listOfPlan plan) ≡ planPlaces
   unfolding listOfPlan
   length-list = simp length-append (omega (arith, arrays))
 
-  -- the parts stored one after the other, and the kind last
+  -- the parts stored one after the other, and the kind and the least thicknesses last
   pub sets-parts : (list stored : List ℕ)
       → stored
       ≡ sets (sets (sets (sets (sets (sets (sets list 0 (plan .d ∷ plan .p ∷ [])) 2 (plan .extents)) 7 (plan .weights)) 12 (plan .cuts)) 17 (plan .cost % 4294967296 ∷ plan .cost / 4294967296 ∷ [])) 19 (plan .moduli)) 24 (plan .matrix)
-      → set stored 49 (plan .kind) ≡ sets list 0 (listOfPlan plan)
+      → sets (set stored 49 (plan .kind)) 50 (plan .least) ≡ sets list 0 (listOfPlan plan)
   unfolding listOfPlan
   sets-parts list stored e =
-      ap (λ (l : List ℕ). set l 49 (plan .kind)) e
+      ap (λ (l : List ℕ). sets (set l 49 (plan .kind)) 50 (plan .least)) e
       ∙ sym (simp (sets-append, arrays .extents-places, arrays .weights-places, arrays .cuts-places, arrays .moduli-places, arrays .matrix-places))
 
 -- the parts of a plan list that the questions read
@@ -116,17 +123,18 @@ module _ (list : List ℕ) (long : length list ≡ planPlaces) where
   part-length at n room = length-take-le n (drop at list) (omega (arith, length-drop at list))
 
   abbrev over : Plan
-  over = planOver (getD list 0 0) (getD list 1 0) (getD list 49 0) (take 5 (drop 2 list)) (take 5 (drop 12 list)) (take 5 (drop 19 list)) (take 25 (drop 24 list))
+  over = planOver (getD list 0 0) (getD list 1 0) (getD list 49 0) (take 5 (drop 2 list)) (take 5 (drop 12 list)) (take 5 (drop 19 list)) (take 25 (drop 24 list)) (take 5 (drop 50 list))
 
   over-list : over
-      ≡ lentPlan (getD list 0 0) (getD list 1 0) (getD list 49 0) (take 5 (drop 2 list)) (take 5 (drop 12 list)) (take 5 (drop 19 list)) (take 25 (drop 24 list))
+      ≡ lentPlan (getD list 0 0) (getD list 1 0) (getD list 49 0) (take 5 (drop 2 list)) (take 5 (drop 12 list)) (take 5 (drop 19 list)) (take 25 (drop 24 list)) (take 5 (drop 50 list))
   over-list =
-      plan-over _ _ _ _ _ _ _
+      plan-over _ _ _ _ _ _ _ _
       (record {
         extents-places = part-length 2 5 (lit≤ tt);
         cuts-places = part-length 12 5 (lit≤ tt);
         moduli-places = part-length 19 5 (lit≤ tt);
         matrix-places = part-length 24 25 (lit≤ tt);
+        least-places = part-length 50 5 (lit≤ tt);
       })
 
   pub owner-over-list : (position : List ℕ) → ownerAnswer (layoutOf over) position ≡ ownerAnswer (layoutOf (planIn list)) position

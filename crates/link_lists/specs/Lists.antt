@@ -13,7 +13,7 @@ use Rattle.timetable.specs.Timetable.{Message, Visit}
 -- ---- plans
 
 -- the places of a plan list: 0 d, 1 p, 2 to 6 extents, 7 to 11 weights, 12 to 16 cuts, 17 and 18 cost (the lower 32 bits first), 19 to 23 moduli,
--- 24 to 48 matrix, row after row of five places, 49 kind (document 02, request c)
+-- 24 to 48 matrix, row after row of five places, 49 kind (document 02, request c), 50 to 54 least thicknesses (document 02, request g)
 unfoldable pub planIn : List ℕ → Plan
 planIn list = record {
   d = getD list 0 0;
@@ -25,6 +25,7 @@ planIn list = record {
   moduli = take 5 (drop 19 list);
   matrix = take 25 (drop 24 list);
   kind = getD list 49 0;
+  least = take 5 (drop 50 list);
 }
 
 -- the list of a plan
@@ -33,11 +34,11 @@ listOfPlan plan =
     plan .d
     ∷ plan .p
     ∷ plan .extents
-    ++ (plan .weights ++ (plan .cuts ++ (plan .cost % 4294967296 ∷ plan .cost / 4294967296 ∷ plan .moduli ++ (plan .matrix ++ (plan .kind ∷ [])))))
+    ++ (plan .weights ++ (plan .cuts ++ (plan .cost % 4294967296 ∷ plan .cost / 4294967296 ∷ plan .moduli ++ (plan .matrix ++ (plan .kind ∷ plan .least)))))
 
 -- how many places a plan list has
 abbrev pub planPlaces : ℕ
-planPlaces = 50
+planPlaces = 55
 
 -- ---- answers
 

@@ -40,7 +40,9 @@ const MATRIX: usize = 24;
 
 const KIND: usize = 49;
 
-pub const PLAN_LENGTH: usize = 50;
+const LEAST: usize = 50;
+
+pub const PLAN_LENGTH: usize = 55;
 
 // Numbers into a list, from place `at` on.
 fn put_part(list: &mut [u32], at: usize, part: &[u32])
@@ -95,6 +97,7 @@ pub fn plan_in(list: &[u32]) -> Plan
     let moduli = five(list, MODULI);
     let matrix = matrix_in(list);
     let kind = list[KIND];
+    let least = five(list, LEAST);
     Plan {
         d: d,
         p: p,
@@ -105,6 +108,7 @@ pub fn plan_in(list: &[u32]) -> Plan
         moduli: moduli,
         matrix: matrix,
         kind: kind,
+        least: least,
     }
 }
 
@@ -121,6 +125,7 @@ pub fn owner_in<'a>(list: &'a [u32], position: &'a [u32]) -> Owner
         &list[CUTS..COST_LOW],
         &list[MODULI..MATRIX],
         &list[MATRIX..KIND],
+        &list[LEAST..PLAN_LENGTH],
         position,
     )
 }
@@ -138,6 +143,7 @@ pub fn neighbour_in(list: &[u32], processor: u32, dimension: usize, up: bool) ->
         &list[CUTS..COST_LOW],
         &list[MODULI..MATRIX],
         &list[MATRIX..KIND],
+        &list[LEAST..PLAN_LENGTH],
         processor,
         dimension,
         up,
@@ -292,5 +298,6 @@ pub fn put_plan(list: &mut [u32], plan: Plan) -> u64
     put_part(list, MODULI, &plan.moduli);
     put_part(list, MATRIX, &plan.matrix);
     list[KIND] = plan.kind;
+    put_part(list, LEAST, &plan.least);
     0
 }

@@ -84,11 +84,12 @@ pub fn owner_over<'a>(
     cuts: &'a [u32],
     moduli: &'a [u32],
     matrix: &'a [u32],
+    least: &'a [u32],
     position: &'a [u32],
 ) -> Owner
-    ensures { λ r. ⌜ toldOwner r ≡ ownerAnswer (layoutOf (planOver d p kind (now (extents .entry)) (now (cuts .entry)) (now (moduli .entry)) (now (matrix .entry)))) (now (position .entry)) ⌝ }
+    ensures { λ r. ⌜ toldOwner r ≡ ownerAnswer (layoutOf (planOver d p kind (now (extents .entry)) (now (cuts .entry)) (now (moduli .entry)) (now (matrix .entry)) (now (least .entry)))) (now (position .entry)) ⌝ }
 {
-    if !layout::shape_ok(d, p, kind, extents, cuts, moduli, matrix) {
+    if !layout::shape_ok(d, p, kind, extents, cuts, moduli, matrix, least) {
         return Owner::Refused {
             number: 6,
             place: 0,
@@ -121,6 +122,7 @@ pub fn owner_of(plan: Plan, position: &[u32]) -> Owner
         &plan.cuts,
         &plan.moduli,
         &plan.matrix,
+        &plan.least,
         position,
     )
 }
@@ -184,13 +186,14 @@ pub fn neighbour_over<'a>(
     cuts: &'a [u32],
     moduli: &'a [u32],
     matrix: &'a [u32],
+    least: &'a [u32],
     processor: u32,
     dimension: usize,
     up: bool,
 ) -> Neighbour
-    ensures { λ r. ⌜ toldNeighbour r ≡ neighbourAnswer (layoutOf (planOver d p kind (now (extents .entry)) (now (cuts .entry)) (now (moduli .entry)) (now (matrix .entry)))) processor dimension up ⌝ }
+    ensures { λ r. ⌜ toldNeighbour r ≡ neighbourAnswer (layoutOf (planOver d p kind (now (extents .entry)) (now (cuts .entry)) (now (moduli .entry)) (now (matrix .entry)) (now (least .entry)))) processor dimension up ⌝ }
 {
-    if !layout::shape_ok(d, p, kind, extents, cuts, moduli, matrix) {
+    if !layout::shape_ok(d, p, kind, extents, cuts, moduli, matrix, least) {
         return Neighbour::Refused {
             number: 6,
             place: 0,
@@ -233,6 +236,7 @@ pub fn neighbour_of(plan: Plan, processor: u32, dimension: usize, up: bool) -> N
         &plan.cuts,
         &plan.moduli,
         &plan.matrix,
+        &plan.least,
         processor,
         dimension,
         up,

@@ -22,15 +22,15 @@ use Rattle.timetable.specs.Timetable.{facesAt, sendsAfter, expectsBefore
 
 -- 4 processors on 8 8 8
 abbrev cube : Layout
-cube = layoutWith (jobWith 4 3 (8 ∷ 8 ∷ 8 ∷ []) (1 ∷ 1 ∷ 1 ∷ [])) (2 ∷ 2 ∷ 2 ∷ [])
+cube = layoutWith (jobWith 4 3 (8 ∷ 8 ∷ 8 ∷ []) (1 ∷ 1 ∷ 1 ∷ []) []) (2 ∷ 2 ∷ 2 ∷ [])
 
 -- 6 processors on 9 9 9
 abbrev box : Layout
-box = layoutWith (jobWith 6 3 (9 ∷ 9 ∷ 9 ∷ []) (1 ∷ 1 ∷ 1 ∷ [])) (2 ∷ 3 ∷ 6 ∷ [])
+box = layoutWith (jobWith 6 3 (9 ∷ 9 ∷ 9 ∷ []) (1 ∷ 1 ∷ 1 ∷ []) []) (2 ∷ 3 ∷ 6 ∷ [])
 
 -- 2 processors on m n 2
 abbrev long : ℕ → ℕ → Layout
-long m n = layoutWith (jobWith 2 3 (m ∷ n ∷ 2 ∷ []) (1 ∷ 1 ∷ 1 ∷ [])) (1 ∷ 2 ∷ 2 ∷ [])
+long m n = layoutWith (jobWith 2 3 (m ∷ n ∷ 2 ∷ []) (1 ∷ 1 ∷ 1 ∷ []) []) (1 ∷ 2 ∷ 2 ∷ [])
 
 -- a plan in shape that no planner made: processor 1 has no tile in slab 0 of dimension 1
 abbrev uneven : Layout
@@ -44,6 +44,7 @@ uneven = record {
   moduli = 1 ∷ 6 ∷ [];
   matrix = (0 ∷ 0 ∷ []) ∷ (2 ∷ 3 ∷ []) ∷ [];
   kind = 0;
+  least = 1 ∷ 1 ∷ [];
 }
 
 -- a question: dimension, direction, step, processor

@@ -4,10 +4,10 @@ use mathlib.Core.Path.{_≡_, refl, sym, ap, ap₂, _∙_, subst, subst⁻¹}
 use mathlib.Core.Logic.{_≢_}
 use mathlib.Core.List.{List}
 use Prim.Native.Nat.{ℕ, _+_, _-_, _*_, _≤_, _<_}
-use native.Mathlib.Nat.{le-refl, le-trans, mul-le-mul-right, one-mul}
+use native.Mathlib.Nat.{le-refl, le-trans, mul-le-mul-right, one-mul, mul-one}
 use native.Mathlib.Decide.{ℕ-discrete}
 use native.Mathlib.Omega.{arith}
-use lib.ListN.{length, getD, set, take, length-set}
+use lib.ListN.{length, getD, set, take, replicate, length-set, getD-replicate}
 use lib.Seq.{getD-take, take-set-lt, length-take-le, getD-set-same, getD-set-other}
 use Rattle.numbers.specs.Products.{product, without}
 use Rattle.numbers.specs.Sums.{sum}
@@ -19,6 +19,7 @@ use Rattle.multipartition.proofs.MixedRadix.{positive-of-places}
 use Rattle.layout.specs.declared.Plan.{Plan}
 use Rattle.layout.specs.Plans.{layoutOf}
 use Rattle.layout.specs.Shaped.{Shaped}
+use Rattle.layout.proofs.Lists.{le-length}
 use Rattle.layout.proofs.Places.{extents-length, cuts-length, extent-at, cut-at}
 use Rattle.layout.proofs.Shaped.{in-shape-of-shaped}
 use Rattle.timetable.specs.Faces.{facesHeld}
@@ -59,6 +60,9 @@ module _ (plan : Plan) (k : ℕ) (s : Shaped plan) (lk : k < plan .d) where
   in-cuts : k < length (plan .cuts)
   in-cuts = omega (arith, s .cuts-long)
 
+  in-least : k < length (plan .least)
+  in-least = omega (arith, le-length (plan .d) (plan .least) (s .least-low))
+
   extent-one-low : (i : ℕ) → i < plan .d → 1 ≤ getD (set (plan .extents) k 1) i 0
   extent-one-low i l = one-at (λ n. 1 ≤ n) (plan .extents) k i in-extents (le-refl 1) (s .extent-low i l)
 
@@ -96,6 +100,8 @@ module _ (plan : Plan) (k : ℕ) (s : Shaped plan) (lk : k < plan .d) where
     cut-low = λ i l. one-at (λ n. 1 ≤ n) (plan .cuts) k i in-cuts (le-refl 1) (s .cut-low i l);
     cut-high = λ i l. one-at (λ n. n ≤ 4096) (plan .cuts) k i in-cuts (omega arith) (s .cut-high i l);
     cut-fits = λ i l. fits i l (ℕ-discrete i k);
+    least-low = λ i l. one-at (λ n. 1 ≤ n) (plan .least) k i in-least (le-refl 1) (s .least-low i l);
+    least-fits = λ i l. thick i l (ℕ-discrete i k);
     tiles-high = le-trans (product-flat-le (plan .d) (plan .cuts) k lk (s .cuts-long) (s .cut-low k lk)) (s .tiles-high);
     modulus-low = s .modulus-low;
     modulus-high = s .modulus-high;
@@ -110,6 +116,12 @@ module _ (plan : Plan) (k : ℕ) (s : Shaped plan) (lk : k < plan .d) where
       fits i l (yes z) =
           rw (z, getD-set-same (plan .cuts) k 1 0 in-cuts, getD-set-same (plan .extents) k 1 0 in-extents) (le-refl 1)
       fits i l (no f) = rw (getD-set-other (plan .cuts) k i 1 0 f, getD-set-other (plan .extents) k i 1 0 f) (s .cut-fits i l)
+
+      thick : (i : ℕ) → i < plan .d → Dec (i ≡ k) → getD (set (plan .cuts) k 1) i 0 * getD (set (plan .least) k 1) i 0 ≤ getD (set (plan .extents) k 1) i 0
+      thick i l (yes z) =
+          rw (z, getD-set-same (plan .cuts) k 1 0 in-cuts, getD-set-same (plan .least) k 1 0 in-least, getD-set-same (plan .extents) k 1 0 in-extents) (le-refl 1)
+      thick i l (no f) =
+          rw (getD-set-other (plan .cuts) k i 1 0 f, getD-set-other (plan .least) k i 1 0 f, getD-set-other (plan .extents) k i 1 0 f) (s .least-fits i l)
 
   cuts-flat : layoutOf (flattened k plan) .cuts ≡ set (layoutOf plan .cuts) k 1
   unfolding flattened layoutOf
@@ -139,6 +151,8 @@ shaped-one-each plan s = record {
   cut-low = s .cut-low;
   cut-high = s .cut-high;
   cut-fits = λ i l. le-refl (getD (plan .cuts) i 0);
+  least-low = λ i l. subst⁻¹ (λ (n : ℕ). 1 ≤ n) (one i l) (le-refl 1);
+  least-fits = λ i l. rw (one i l, mul-one (getD (plan .cuts) i 0)) (le-refl (getD (plan .cuts) i 0));
   tiles-high = s .tiles-high;
   modulus-low = s .modulus-low;
   modulus-high = s .modulus-high;
@@ -148,6 +162,9 @@ shaped-one-each plan s = record {
   cuts-long = s .cuts-long;
   moduli-long = s .moduli-long;
 }
+  where
+    one : (i : ℕ) → i < plan .d → getD {A = ℕ} (replicate 5 1) i 0 ≡ 1
+    one i l = getD-replicate 5 i 1 0 (le-trans l (s .d-high))
 
 pub one-each-fits : (plan : Plan) (s : Shaped plan) (k : ℕ) → k < plan .d → otherExtents (layoutOf (oneEach plan)) (k + 1) ≤ 4294967295
 unfolding oneEach

@@ -1,9 +1,9 @@
 -- A processor's faces and tiles in a slab, from the plans that the functions make: one with dimension k flat, then with j, then with c.
 use mathlib.Core.Path.{_≡_, refl, sym, ap, _∙_, subst, subst⁻¹}
 use mathlib.Core.Logic.{_≢_}
-use mathlib.Core.List.{List}
-use Prim.Native.Nat.{ℕ, _+_, _≤_, _<_}
-use lib.ListN.{getD}
+use mathlib.Core.List.{List, _∷_}
+use Prim.Native.Nat.{ℕ, zero, suc, _+_, _≤_, _<_}
+use lib.ListN.{getD, set, replicate}
 use Rattle.numbers.specs.Products.{product}
 use Rattle.numbers.specs.Sums.{sum}
 use Rattle.multipartition.specs.Questions.{ownerBy}
@@ -18,10 +18,16 @@ use Rattle.timetable.specs.Rows.{RowTable, slabLine, SlabAsked, flattene
 use Rattle.timetable.proofs.Grids.{shaped-flat, shaped-one-each, one-each-fits, slab-lines, slab-asked}
 use Rattle.timetable.proofs.Tables.{faces-are-tiles}
 
+-- a number set in a list of that number alone
+set-replicate : (n k x : ℕ) → set (replicate n x) k x ≡ replicate n x
+set-replicate zero k x = refl
+set-replicate (suc n) zero x = refl
+set-replicate (suc n) (suc k) x = ap (λ (l : List ℕ). x ∷ l) (set-replicate n k x)
+
 -- the flat grids of the plan with one element in every slab
 one-each-flat : (plan : Plan) (k : ℕ) → flattened k (oneEach plan) ≡ oneEach (flattened k plan)
 unfolding flattened oneEach
-one-each-flat plan k = refl
+one-each-flat plan k = rw (set-replicate 5 k 1)
 
 -- the grid with k and j flat is in shape
 pub flat-shape : (plan once grid : Plan) (k j : ℕ) → Shaped plan → k < plan .d → j < plan .d → once ≡ flattened k plan → grid ≡ flattened j once → Shaped grid

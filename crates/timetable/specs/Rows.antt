@@ -5,7 +5,7 @@ use mathlib.Core.Bool.{Bool, true, false}
 use mathlib.Core.List.{List, [], _∷_}
 use mathlib.Core.Path.{_≡_}
 use Prim.Native.Nat.{ℕ, zero, suc, _*_, _/_, _%_, _≤_, _<_}
-use lib.ListN.{length, getD, set, take}
+use lib.ListN.{length, getD, set, take, replicate}
 use Rattle.numbers.specs.Products.{product}
 use Rattle.numbers.specs.Sums.{sum, same}
 use Rattle.multipartition.specs.Owners.{ownerAt}
@@ -49,6 +49,7 @@ flattened k plan = record {
   moduli = plan .moduli;
   matrix = plan .matrix;
   kind = plan .kind;
+  least = set (plan .least) k 1;
 }
 
 -- the plan with one element in every slab: its faces are 1, so that their sum counts tiles
@@ -63,6 +64,7 @@ oneEach plan = record {
   moduli = plan .moduli;
   matrix = plan .matrix;
   kind = plan .kind;
+  least = replicate 5 1;
 }
 
 -- a table of rows along dimension j, with an entry for each owner of a row's first tile: the elements that the first m slabs have of q

@@ -221,6 +221,7 @@ fn flatten(plan: Plan, k: usize) -> Plan
     let mut grid = plan;
     grid.extents[k] = 1;
     grid.cuts[k] = 1;
+    grid.least[k] = 1;
     grid
 }
 

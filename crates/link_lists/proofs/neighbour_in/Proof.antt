@@ -54,11 +54,20 @@ part-neighbour-over-start-4 c = search needs
 part-neighbour-over-end-4 : tie.Need-part-neighbour-over-end-4
 part-neighbour-over-end-4 c = search needs
 
+sub-neighbour-over-5 : tie.Need-sub-neighbour-over-5
+sub-neighbour-over-5 c = search needs
+
+part-neighbour-over-start-5 : tie.Need-part-neighbour-over-start-5
+part-neighbour-over-start-5 c = search needs
+
+part-neighbour-over-end-5 : tie.Need-part-neighbour-over-end-5
+part-neighbour-over-end-5 c = search needs
+
 neighbour-over-requires : tie.Need-neighbour-over-requires
 neighbour-over-requires c κs = search needs
 
 returns : tie.Need-returns
-returns c = let s = c .before .before .before .before .before .before .before .before .before in c .neighbour-over .ensures ∙ neighbour-over-list (s .args .list .now) (s .pre) (s .args .processor) (s .args .dimension) (s .args .up)
+returns c = let s = c .before .before .before .before .before .before .before .before .before .before in c .neighbour-over .ensures ∙ neighbour-over-list (s .args .list .now) (s .pre) (s .args .processor) (s .args .dimension) (s .args .up)
 
 pub neighbour-in-spec : {M : Type 1} → statement M
 neighbour-in-spec =
@@ -80,5 +89,8 @@ neighbour-in-spec =
     sub-neighbour-over-4
     part-neighbour-over-start-4
     part-neighbour-over-end-4
+    sub-neighbour-over-5
+    part-neighbour-over-start-5
+    part-neighbour-over-end-5
     neighbour-over-requires
     returns)

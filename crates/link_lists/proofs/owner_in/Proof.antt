@@ -54,11 +54,20 @@ part-owner-over-start-4 c = search needs
 part-owner-over-end-4 : tie.Need-part-owner-over-end-4
 part-owner-over-end-4 c = search needs
 
+sub-owner-over-5 : tie.Need-sub-owner-over-5
+sub-owner-over-5 c = search needs
+
+part-owner-over-start-5 : tie.Need-part-owner-over-start-5
+part-owner-over-start-5 c = search needs
+
+part-owner-over-end-5 : tie.Need-part-owner-over-end-5
+part-owner-over-end-5 c = search needs
+
 owner-over-requires : tie.Need-owner-over-requires
 owner-over-requires c κs = search needs
 
 returns : tie.Need-returns
-returns c = let s = c .before .before .before .before .before .before .before .before .before .before in c .owner-over .ensures ∙ owner-over-list (s .args .list .now) (s .pre) (s .args .position .now)
+returns c = let s = c .before .before .before .before .before .before .before .before .before .before .before in c .owner-over .ensures ∙ owner-over-list (s .args .list .now) (s .pre) (s .args .position .now)
 
 pub owner-in-spec : {M : Type 1} → statement M
 owner-in-spec =
@@ -80,5 +89,8 @@ owner-in-spec =
     sub-owner-over-4
     part-owner-over-start-4
     part-owner-over-end-4
+    sub-owner-over-5
+    part-owner-over-start-5
+    part-owner-over-end-5
     owner-over-requires
     returns)

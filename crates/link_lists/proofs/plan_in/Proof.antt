@@ -41,16 +41,20 @@ matrix-in-requires c κs = search needs
 shared-slice-read-kind : tie.Need-shared-slice-read-kind
 shared-slice-read-kind c = search needs
 
+five-requires-5 : tie.Need-five-requires-5
+five-requires-5 c κs = search needs
+
 returns : tie.Need-returns
 unfolding planIn
 returns c =
     rw (
-      c .before .before .before .before .before .before .before .before .five .ensures,
-      c .before .before .before .before .before .before .before .five2 .ensures,
-      c .before .before .before .before .before .before .five3 .ensures,
-      c .before .before .before .joined .ensures,
-      c .before .before .five4 .ensures,
-      c .before .matrix-in .ensures,
+      c .before .before .before .before .before .before .before .before .before .five .ensures,
+      c .before .before .before .before .before .before .before .before .five2 .ensures,
+      c .before .before .before .before .before .before .before .five3 .ensures,
+      c .before .before .before .before .joined .ensures,
+      c .before .before .before .five4 .ensures,
+      c .before .before .matrix-in .ensures,
+      c .five5 .ensures,
     )
 
 pub plan-in-spec : {M : Type 1} → statement M
@@ -69,4 +73,5 @@ plan-in-spec =
     five-requires-4
     matrix-in-requires
     shared-slice-read-kind
+    five-requires-5
     returns)

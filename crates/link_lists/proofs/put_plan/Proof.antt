@@ -10,11 +10,15 @@ use Rattle.link_lists.proofs.Plans.{length-list, sets-parts}
 use Rattle.link_lists.proofs.put_plan.Statement.{statement}
 use Rattle.link_lists.proofs.put_plan.Tie as tie
 
+-- the plan's lists have their places
+arrays : (s : tie.Start) → Arrays (s .args .t2)
+arrays s = search needs
+
 returns : tie.Need-returns
 returns c =
-    let a = c .before .before .args in
-    let arrays : Arrays (a .t2) = search needs in
-    linked-length (a .list .now) (listOfPlan (a .t2)) (λ e. c .if1 .taken (e ∙ length-list (a .t2) arrays))
+    let s = c .before .before in
+    let a = s .args in
+    linked-length (a .list .now) (listOfPlan (a .t2)) (λ e. c .if1 .taken (e ∙ length-list (a .t2) (arrays s)))
 
 cast-d : tie.Need-cast-d
 cast-d c = search needs
@@ -58,8 +62,7 @@ put-part-requires-7 c κs =
     let s2 = s3 .before .before .before .before .before .before .before in
     let s1 = s2 .before .before .before .before .before .before .before in
     let kept = s6 .put-part6 .ensures .1 ∙ s5 .put-part5 .ensures .1 ∙ s4 .put-part4 .ensures .1 ∙ s3 .put-part3 .ensures .1 ∙ s2 .put-part2 .ensures .1 ∙ s1 .put-part .ensures .1 ∙ s1 .before .before .before .if1 .left in
-    let arrays : Arrays (s1 .before .before .before .before .before .args .t2) = search needs in
-    omega (arith, kept, arrays .matrix-places)
+    omega (arith, kept, arrays (s1 .before .before .before .before .before) .matrix-places)
 
 slice-write-list : tie.Need-slice-write-list
 slice-write-list c =
@@ -73,30 +76,46 @@ slice-write-list c =
     let kept = s7 .put-part7 .ensures .1 ∙ s6 .put-part6 .ensures .1 ∙ s5 .put-part5 .ensures .1 ∙ s4 .put-part4 .ensures .1 ∙ s3 .put-part3 .ensures .1 ∙ s2 .put-part2 .ensures .1 ∙ s1 .put-part .ensures .1 ∙ s1 .before .before .before .if1 .left in
     omega (arith, kept)
 
-same-length : tie.Need-same-length
-same-length c =
-    let s7 = c .before .before in
+put-part-requires-8 : tie.Need-put-part-requires-8
+put-part-requires-8 c κs =
+    let s7 = c .before .before .before .before .before .before in
     let s6 = s7 .before .before .before .before .before .before .before in
     let s5 = s6 .before .before .before .before .before .before .before in
     let s4 = s5 .before .before .before .before .before in
     let s3 = s4 .before .before .before .before .before .before .before in
     let s2 = s3 .before .before .before .before .before .before .before in
     let s1 = s2 .before .before .before .before .before .before .before in
-    length-set (s7 .put-part7 .last .0) 49 _ ∙ s7 .put-part7 .ensures .1 ∙ s6 .put-part6 .ensures .1 ∙ s5 .put-part5 .ensures .1 ∙ s4 .put-part4 .ensures .1 ∙ s3 .put-part3 .ensures .1 ∙ s2 .put-part2 .ensures .1 ∙ s1 .put-part .ensures .1
+    let s = s1 .before .before .before .before .before in
+    let kept = length-set (s7 .put-part7 .last .0) 49 (s .args .t2 .kind) ∙ s7 .put-part7 .ensures .1 ∙ s6 .put-part6 .ensures .1 ∙ s5 .put-part5 .ensures .1 ∙ s4 .put-part4 .ensures .1 ∙ s3 .put-part3 .ensures .1 ∙ s2 .put-part2 .ensures .1 ∙ s1 .put-part .ensures .1 ∙ s1 .before .before .before .if1 .left in
+    omega (arith, kept, arrays s .least-places)
+
+same-length : tie.Need-same-length
+same-length c =
+    let s8 = c .before .before in
+    let s7 = s8 .before .before .before .before .before .before .before in
+    let s6 = s7 .before .before .before .before .before .before .before in
+    let s5 = s6 .before .before .before .before .before .before .before in
+    let s4 = s5 .before .before .before .before .before in
+    let s3 = s4 .before .before .before .before .before .before .before in
+    let s2 = s3 .before .before .before .before .before .before .before in
+    let s1 = s2 .before .before .before .before .before .before .before in
+    s8 .put-part8 .ensures .1 ∙ length-set (s7 .put-part7 .last .0) 49 _ ∙ s7 .put-part7 .ensures .1 ∙ s6 .put-part6 .ensures .1 ∙ s5 .put-part5 .ensures .1 ∙ s4 .put-part4 .ensures .1 ∙ s3 .put-part3 .ensures .1 ∙ s2 .put-part2 .ensures .1 ∙ s1 .put-part .ensures .1
 
 returns-2 : tie.Need-returns-2
 returns-2 c =
-    let s7 = c .before .before in
+    let s8 = c .before .before in
+    let s7 = s8 .before .before .before .before .before .before .before in
     let s6 = s7 .before .before .before .before .before .before .before in
     let s5 = s6 .before .before .before .before .before .before .before in
     let s4 = s5 .before .before .before .before .before in
     let s3 = s4 .before .before .before .before .before .before .before in
     let s2 = s3 .before .before .before .before .before .before .before in
     let s1 = s2 .before .before .before .before .before .before .before in
-    let a = s1 .before .before .before .before .before .args in
-    let arrays : Arrays (a .t2) = search needs in
-    linked-into (a .list .now) (listOfPlan (a .t2)) _ (s1 .before .before .before .if1 .left ∙ sym (length-list (a .t2) arrays))
-    (sets-parts (a .t2) arrays (a .list .now) _
+    let s = s1 .before .before .before .before .before in
+    let a = s .args in
+    linked-into (a .list .now) (listOfPlan (a .t2)) _ (s1 .before .before .before .if1 .left ∙ sym (length-list (a .t2) (arrays s)))
+    (s8 .put-part8 .ensures .0
+    ∙ sets-parts (a .t2) (arrays s) (a .list .now) _
     (s7 .put-part7 .ensures .0
     ∙ rw (
       s6 .put-part6 .ensures .0,
@@ -126,5 +145,6 @@ put-plan-spec =
     put-part-requires-6
     put-part-requires-7
     slice-write-list
+    put-part-requires-8
     same-length
     returns-2)

@@ -16,10 +16,10 @@ neighbour-over-requires c κs = search needs
 returns : tie.Need-returns
 unfolding neighbourAnswer inShape layoutOf
 returns c =
-    let a = c .before .before .before .before .before .before .before .before .before .before .args in
+    let a = c .before .before .before .before .before .before .before .before .before .before .before .before .args in
     let plan = a .t1 in
     c .neighbour-over .ensures
-    ∙ ap (λ (q : Plan). neighbourAnswer (layoutOf q) (a .processor) (a .dimension) (a .up)) (plan-over (plan .extents) (plan .cuts) (plan .moduli) (plan .matrix) (plan .d) (plan .p) (plan .kind) (search needs))
+    ∙ ap (λ (q : Plan). neighbourAnswer (layoutOf q) (a .processor) (a .dimension) (a .up)) (plan-over (plan .extents) (plan .cuts) (plan .moduli) (plan .matrix) (plan .least) (plan .d) (plan .p) (plan .kind) (search needs))
 
 pub neighbour-of-spec : {M : Type 1} → statement M
 neighbour-of-spec = tie.close (tie.spec neighbour-over-requires returns)

@@ -24,17 +24,17 @@ use Rattle.questions.proofs.neighbour_over.Tie as tie
 abbrev plan : tie.Start → Plan
 plan s =
     let a = s .args in
-    lentPlan (a .d) (a .p) (a .kind) (a .extents .now) (a .cuts .now) (a .moduli .now) (a .matrix .now)
+    lentPlan (a .d) (a .p) (a .kind) (a .extents .now) (a .cuts .now) (a .moduli .now) (a .matrix .now) (a .least .now)
 
 -- once the first check has passed, the lists have a plan's places
-lent : (c : tie.Else1) → let a = c .before .before .before .before .before .before .args in Lent (a .extents .now) (a .cuts .now) (a .moduli .now) (a .matrix .now)
-lent c = lent-of-shape _ _ _ _ _ _ _ (sym (c .before .shape-ok .ensures) ∙ not-false _ (c .if1 .left))
+lent : (c : tie.Else1) → let a = c .before .before .before .before .before .before .before .args in Lent (a .extents .now) (a .cuts .now) (a .moduli .now) (a .matrix .now) (a .least .now)
+lent c = lent-of-shape _ _ _ _ _ _ _ _ (sym (c .before .shape-ok .ensures) ∙ not-false _ (c .if1 .left))
 
-over : (c : tie.Else1) → let a = c .before .before .before .before .before .before .args in planOver (a .d) (a .p) (a .kind) (a .extents .now) (a .cuts .now) (a .moduli .now) (a .matrix .now) ≡ plan (c .before .before .before .before .before .before)
-over c = plan-over _ _ _ _ _ _ _ (lent c)
+over : (c : tie.Else1) → let a = c .before .before .before .before .before .before .before .args in planOver (a .d) (a .p) (a .kind) (a .extents .now) (a .cuts .now) (a .moduli .now) (a .matrix .now) (a .least .now) ≡ plan (c .before .before .before .before .before .before .before)
+over c = plan-over _ _ _ _ _ _ _ _ (lent c)
 
 -- and their plan is in shape
-shape : (c : tie.Else1) → inShape (layoutOf (plan (c .before .before .before .before .before .before))) ≡ true
+shape : (c : tie.Else1) → inShape (layoutOf (plan (c .before .before .before .before .before .before .before))) ≡ true
 shape c = rw (over c) at (sym (c .before .shape-ok .ensures) ∙ not-false _ (c .if1 .left))
 
 shape-ok-requires : tie.Need-shape-ok-requires
@@ -67,11 +67,11 @@ shared-slice-read-if5 c = omega (arith, shaped _ (shape (c .before .before .befo
 returns-5 : tie.Need-returns-5
 unfolding layoutOf
 returns-5 c = let b = c .before .before .before in
-    let a = c .before .before .before .before .before .before .before .before .before .before .before .args in
+    let a = c .before .before .before .before .before .before .before .before .before .before .before .before .args in
     rw (over (b .before .before))
     (sym
     (no-neighbour _ _ _ _ (shape (b .before .before)) (b .before .if2 .left) (b .if3 .left) (c .before .before .if4 .left)
-    (cut-at (plan (c .before .before .before .before .before .before .before .before .before .before .before)) (a .dimension - 1) (omega arith) ∙ c .if5 .taken)))
+    (cut-at (plan (c .before .before .before .before .before .before .before .before .before .before .before .before)) (a .dimension - 1) (omega arith) ∙ c .if5 .taken)))
 
 neighbour-number-requires : tie.Need-neighbour-number-requires
 neighbour-number-requires c κs =
@@ -81,8 +81,8 @@ returns-6 : tie.Need-returns-6
 unfolding layoutOf
 returns-6 c = let e = c .before in
     let b = e .before .before .before in
-    let a = c .before .before .before .before .before .before .before .before .before .before .before .before .args in
-    let cut = cut-at (plan (c .before .before .before .before .before .before .before .before .before .before .before .before)) (a .dimension - 1) (omega arith) in
+    let a = c .before .before .before .before .before .before .before .before .before .before .before .before .before .args in
+    let cut = cut-at (plan (c .before .before .before .before .before .before .before .before .before .before .before .before .before)) (a .dimension - 1) (omega arith) in
     rw (over (b .before .before))
     (ap (λ (q : ℕ). answered (some q)) (c .neighbour-number .ensures)
     ∙ sym

@@ -16,10 +16,10 @@ owner-over-requires c κs = search needs
 returns : tie.Need-returns
 unfolding ownerAnswer inShape layoutOf
 returns c =
-    let a = c .before .before .before .before .before .before .before .before .before .before .before .args in
+    let a = c .before .before .before .before .before .before .before .before .before .before .before .before .before .args in
     let plan = a .t1 in
     c .owner-over .ensures
-    ∙ ap (λ (q : Plan). ownerAnswer (layoutOf q) (a .position .now)) (plan-over (plan .extents) (plan .cuts) (plan .moduli) (plan .matrix) (plan .d) (plan .p) (plan .kind) (search needs))
+    ∙ ap (λ (q : Plan). ownerAnswer (layoutOf q) (a .position .now)) (plan-over (plan .extents) (plan .cuts) (plan .moduli) (plan .matrix) (plan .least) (plan .d) (plan .p) (plan .kind) (search needs))
 
 pub owner-of-spec : {M : Type 1} → statement M
 owner-of-spec = tie.close (tie.spec owner-over-requires returns)

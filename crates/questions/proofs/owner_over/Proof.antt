@@ -23,21 +23,21 @@ use Rattle.questions.proofs.owner_over.Tie as tie
 abbrev plan : tie.Start → Plan
 plan s =
     let a = s .args in
-    lentPlan (a .d) (a .p) (a .kind) (a .extents .now) (a .cuts .now) (a .moduli .now) (a .matrix .now)
+    lentPlan (a .d) (a .p) (a .kind) (a .extents .now) (a .cuts .now) (a .moduli .now) (a .matrix .now) (a .least .now)
 
 -- once the first check has passed, the lists have a plan's places
-lent : (c : tie.Else1) → let a = c .before .before .before .before .before .before .before .args in Lent (a .extents .now) (a .cuts .now) (a .moduli .now) (a .matrix .now)
-lent c = lent-of-shape _ _ _ _ _ _ _ (sym (c .before .shape-ok .ensures) ∙ not-false _ (c .if1 .left))
+lent : (c : tie.Else1) → let a = c .before .before .before .before .before .before .before .before .args in Lent (a .extents .now) (a .cuts .now) (a .moduli .now) (a .matrix .now) (a .least .now)
+lent c = lent-of-shape _ _ _ _ _ _ _ _ (sym (c .before .shape-ok .ensures) ∙ not-false _ (c .if1 .left))
 
-over : (c : tie.Else1) → let a = c .before .before .before .before .before .before .before .args in planOver (a .d) (a .p) (a .kind) (a .extents .now) (a .cuts .now) (a .moduli .now) (a .matrix .now) ≡ plan (c .before .before .before .before .before .before .before)
-over c = plan-over _ _ _ _ _ _ _ (lent c)
+over : (c : tie.Else1) → let a = c .before .before .before .before .before .before .before .before .args in planOver (a .d) (a .p) (a .kind) (a .extents .now) (a .cuts .now) (a .moduli .now) (a .matrix .now) (a .least .now) ≡ plan (c .before .before .before .before .before .before .before .before)
+over c = plan-over _ _ _ _ _ _ _ _ (lent c)
 
 -- and their plan is in shape
-shape : (c : tie.Else1) → inShape (layoutOf (plan (c .before .before .before .before .before .before .before))) ≡ true
+shape : (c : tie.Else1) → inShape (layoutOf (plan (c .before .before .before .before .before .before .before .before))) ≡ true
 shape c = rw (over c) at (sym (c .before .shape-ok .ensures) ∙ not-false _ (c .if1 .left))
 
 -- the position is inside its grid, once the last has
-inside : (c : tie.Else3) → isInside (layoutOf (plan (c .before .before .before .before .before .before .before .before .before .before)) .cuts) (c .before .before .before .before .before .before .before .before .before .before .args .position .now) ≡ true
+inside : (c : tie.Else3) → isInside (layoutOf (plan (c .before .before .before .before .before .before .before .before .before .before .before)) .cuts) (c .before .before .before .before .before .before .before .before .before .before .before .args .position .now) ≡ true
 inside c =
     let e = c .before .before in
     inside-if-below _ (shaped _ (shape (e .before))) _ _ (e .if2 .left) (c .before .below-cuts .ensures) ∙ not-false _ (c .if3 .left)
@@ -76,7 +76,7 @@ unfolding layoutOf
 returns-4 c =
     rw (over (c .before .before .before .before))
     (ap answered (c .owner-number .ensures)
-    ∙ sym (owner-of-inside (layoutOf (plan (c .before .before .before .before .before .before .before .before .before .before .before))) _ (shape (c .before .before .before .before)) (inside (c .before))))
+    ∙ sym (owner-of-inside (layoutOf (plan (c .before .before .before .before .before .before .before .before .before .before .before .before))) _ (shape (c .before .before .before .before)) (inside (c .before))))
 
 pub owner-over-spec : {M : Type 1} → statement M
 owner-over-spec =
