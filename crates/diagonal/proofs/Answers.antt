@@ -2,6 +2,7 @@
 -- plan is in shape.
 use mathlib.Core.Path.{_≡_, sym, ap, _∙_, subst, subst⁻¹}
 use mathlib.Core.Bool.{true, not}
+use mathlib.Core.List.{List, []}
 use mathlib.Core.Logic.{_↔_}
 use Prim.Native.Nat.{ℕ, zero, suc, _-_, _^_, _≤_, _<_}
 use native.Mathlib.Omega.{arith}
@@ -9,9 +10,10 @@ use borrow.Author.Tests.{not-false}
 use lib.ListN.{length, replicate}
 use Rattle.multipartition.specs.Answers.{answered}
 use Rattle.multipartition.specs.Cuts.{Fits}
-use Rattle.multipartition.specs.Plans.{Job, Layout, inShape}
+use Rattle.multipartition.specs.Plans.{Job, Layout, jobWith, inShape}
+use Rattle.multipartition.specs.Jobs.{firstOutside, firstZero}
 use Rattle.multipartition.proofs.Answers.{Small, answers-iff, checked-small}
-use Rattle.multipartition.proofs.Jobs.{placesOf, job-passes-iff, extent-small, least-small}
+use Rattle.multipartition.proofs.Jobs.{job-passes-iff, job-of-ones}
 use Rattle.multipartition.proofs.Plans.{in-shape-iff}
 use Rattle.layout.specs.Sized.{Sized}
 use Rattle.diagonal.specs.Diagonal.{diagonalPlan, sideOf, suits, sideFits, diagonalChecks, diagonalAnswer, DiagonalFor}
@@ -87,10 +89,10 @@ module _ (job : Job) (plan : Layout) (e : diagonalAnswer job ≡ answered plan) 
       subst⁻¹ Sized (made .plan-is) (diagonal-sized job (made .n) (made .s) (made .dimensions) (made .processors) (made .passed) (made .fits))
 
 -- a refusal has a number from 1 on, and one of two digits
-pub diagonal-small : (job : Job) → Small (placesOf job) (diagonalAnswer job)
+pub diagonal-small : (job : Job) (most : ℕ) → firstOutside (job .extents) ≤ most → firstZero (job .least) ≤ most → Small most (diagonalAnswer job)
 unfolding diagonalAnswer
-diagonal-small job =
-    checked-small (placesOf job) (diagonalChecks job) (answered (diagonalPlan job (sideOf (job .d) (job .p)))) (
+diagonal-small job most extent thickness =
+    checked-small most (diagonalChecks job) (answered (diagonalPlan job (sideOf (job .d) (job .p)))) (
       (omega arith, omega arith, omega arith),
       (
         (omega arith, omega arith, omega arith),
@@ -98,9 +100,14 @@ diagonal-small job =
           (omega arith, omega arith, omega arith),
           (
             (omega arith, omega arith, omega arith),
-            (extent-small job, (least-small job, ((omega arith, omega arith, omega arith), tt))),
+            ((omega arith, omega arith, extent), ((omega arith, omega arith, thickness), ((omega arith, omega arith, omega arith), tt))),
           ),
         ),
       ),
     )
     tt
+
+-- an empty list of thicknesses and a list of ones get the same plan
+pub diagonal-of-ones : (p d : ℕ) (extents weights : List ℕ)
+    → diagonalAnswer (jobWith p d extents weights (replicate d 1)) ≡ diagonalAnswer (jobWith p d extents weights [])
+diagonal-of-ones p d extents weights = ap diagonalAnswer (job-of-ones p d extents weights)

@@ -11,9 +11,9 @@ use Rattle.multipartition.specs.Answers.{Answer, answered, refused}
 abbrev pub largest : ℕ
 largest = 4294967295
 
--- "A readable line has 2 to 12 numbers": the most that it has
+-- "A readable line has 2 to 12 numbers"; document 02, request g: the text line "has up to 17 numbers": the most that it has
 abbrev pub mostNumbers : ℕ
-mostNumbers = 12
+mostNumbers = 17
 
 -- every number of a list is at most `bound`
 abbrev pub AllAtMost : ℕ → List ℕ → Type 0

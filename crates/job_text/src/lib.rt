@@ -1,4 +1,4 @@
-// The reader of the job line: 2 to 12 decimal numbers with one space between and a newline after the last.
+// The reader of the job line: 2 to 17 decimal numbers with one space between and a newline after the last.
 ghost use mathlib.Core.Path.{_≡_};
 ghost use mathlib.Core.List.{_++_, _∷_, []};
 ghost use Prim.Native.Nat.{_<_, _≤_, _+_};
@@ -9,7 +9,7 @@ ghost use Rattle.job_text.specs.Machine.{between, inside, isDigit, after
 ghost use Rattle.job_text.specs.Readings.{Sound, Holds, stateAt, mostAt, numbersOf, stateOf};
 
 // The most numbers that a line has.
-const MOST: usize = 12;
+const MOST: usize = 17;
 
 // What a text is: a readable line of so many numbers, or none.
 pub enum Line {

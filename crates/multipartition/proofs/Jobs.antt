@@ -1,19 +1,19 @@
 -- What the planner's answer to a job says: a job in range is answered with the cheapest cuts, or refused with 5 where there are none; and a plan
 -- that is answered is in shape.
 use mathlib.Core.Path.{_≡_, refl, sym, ap, _∙_, subst, subst⁻¹}
-use mathlib.Core.Logic.{_↔_}
+use mathlib.Core.Logic.{_⊎_, inl, inr, ⊎-elim, _↔_}
 use mathlib.Core.Bool.{Bool, true, false, not, _||_}
-use mathlib.Core.List.{List}
+use mathlib.Core.List.{List, [], _∷_}
 use mathlib.Core.Option.{Option, none, some}
-use Prim.Native.Nat.{ℕ, _+_, _≤_, _<_}
+use Prim.Native.Nat.{ℕ, zero, suc, _+_, _≤_, _<_}
 use native.Mathlib.Omega.{arith}
 use borrow.Author.Tests.{eqb-true, eq-eqb, not-false}
 use lib.Dec.{leb, eqb}
-use lib.ListN.{length, getD}
+use lib.ListN.{length, getD, replicate, length-replicate, getD-replicate}
 use Rattle.multipartition.specs.Answers.{answered, refused}
 use Rattle.multipartition.specs.Cuts.{Fits, Even}
-use Rattle.multipartition.specs.Plans.{Job, Layout, layoutWith, between, inShape}
-use Rattle.multipartition.specs.Jobs.{Passed, PlanFor, firstOutside, firstZero, lengthsCheck, extentsCheck, leastCheck, jobChecks, cheapestFor, planWith, planAnswer}
+use Rattle.multipartition.specs.Plans.{Job, Layout, leastOf, jobWith, layoutWith, between, inShape}
+use Rattle.multipartition.specs.Jobs.{Passed, PlanFor, firstOutside, firstZero, lengthsCheck, jobChecks, cheapestFor, planWith, planAnswer}
 use Rattle.multipartition.proofs.Answers.{AllPass, Small, checked-passed, checked-answered, checked-small}
 use Rattle.multipartition.proofs.Chosen.{none-chosen, chosen-fits, chosen-even}
 use Rattle.multipartition.proofs.Plans.{layout-in-shape}
@@ -29,6 +29,17 @@ extents-iff extents = firstFailing-zero-iff (between 1 1000000) (between-true-if
 pub least-iff : (least : List ℕ) → (firstZero least ≡ 0) ↔ ((k : ℕ) → k < length least → 1 ≤ getD least k 0)
 least-iff least = firstFailing-zero-iff (leb 1) (leb-iff 1) least
 
+-- the first of them is one of them
+pub firstOutside-le : (extents : List ℕ) → firstOutside extents ≤ 1 + length extents
+firstOutside-le extents = firstFailing-le (between 1 1000000) 1 extents
+
+pub firstZero-le : (d : ℕ) (given : List ℕ) → firstZero (leastOf d given) ≤ 1 + length given
+firstZero-le d [] = omega (arith, least-iff (replicate d 1) .1 (λ k l. ones k (subst (λ (n : ℕ). k < n) (length-replicate {A = ℕ} d 1) l)))
+  where
+    ones : (k : ℕ) → k < d → 1 ≤ getD (replicate d 1) k 0
+    ones k l = omega (arith, getD-replicate {A = ℕ} d k 1 0 l)
+firstZero-le d (t ∷ given) = firstFailing-le (leb 1) 1 (t ∷ given)
+
 -- line 3
 pub lengths-of-check : (job : Job) → lengthsCheck job .fails ≡ false → (length (job .extents) ≡ job .d) × (length (job .weights) ≡ job .d) × (length (job .least) ≡ job .d)
 lengths-of-check job e =
@@ -38,10 +49,6 @@ lengths-of-check job e =
     let both = or-false (not E || not W) (not L) e in
     let two = or-false (not E) (not W) (both .0) in
     (eqb-true _ _ (not-false E (two .0)), eqb-true _ _ (not-false W (two .1)), eqb-true _ _ (not-false L (both .1)))
-
--- no place that a refusal names is above this
-abbrev pub placesOf : Job → ℕ
-placesOf job = 1 + (length (job .extents) + length (job .least))
 
 module _ (job : Job) where
   -- the lines 1 to 4 of the table and 13, and what it takes to pass them
@@ -113,27 +120,20 @@ module _ (job : Job) where
           go none f = refl
           go (some u) f = absurd (h u (chosen-fits job passed u f) (chosen-even job passed u f))
 
-  -- the lines 4 and 13: their numbers and places
-  pub extent-small : (1 ≤ extentsCheck job .number) × (extentsCheck job .number < 100) × (extentsCheck job .place ≤ placesOf job)
-  extent-small = let at = firstFailing-le (between 1 1000000) 1 (job .extents) in (omega arith, omega arith, omega (arith, at))
-
-  pub least-small : (1 ≤ leastCheck job .number) × (leastCheck job .number < 100) × (leastCheck job .place ≤ placesOf job)
-  least-small = let at = firstFailing-le (leb 1) 1 (job .least) in (omega arith, omega arith, omega (arith, at))
-
-  -- a refusal has a number from 1 on, and one of two digits
-  pub plan-small : Small (placesOf job) (planAnswer job)
+  -- a refusal has a number from 1 on, and one of two digits; its place is 0 or that of an extent or a thickness
+  pub plan-small : (most : ℕ) → firstOutside (job .extents) ≤ most → firstZero (job .least) ≤ most → Small most (planAnswer job)
   unfolding planAnswer planWith
-  plan-small =
-      checked-small (placesOf job) (jobChecks job) (planWith job (cheapestFor job)) (
+  plan-small most extent thickness =
+      checked-small most (jobChecks job) (planWith job (cheapestFor job)) (
         (omega arith, omega arith, omega arith),
         (
           (omega arith, omega arith, omega arith),
-          ((omega arith, omega arith, omega arith), (extent-small, (least-small, tt))),
+          ((omega arith, omega arith, omega arith), ((omega arith, omega arith, extent), ((omega arith, omega arith, thickness), tt))),
         ),
       )
       (go (cheapestFor job))
     where
-      go : (o : Option (List ℕ)) → Small (placesOf job) (planWith job o)
+      go : (o : Option (List ℕ)) → Small most (planWith job o)
       go none = (omega arith, omega arith, omega arith)
       go (some cuts) = tt
 
@@ -158,3 +158,19 @@ module _ (job : Job) where
     plan-in-shape e =
         let made = plan-answered e in
         subst⁻¹ (λ (l : Layout). inShape l ≡ true) (made .plan-is) (layout-in-shape job (plan .cuts) (made .passed) (made .cuts-are))
+
+-- ---- thicknesses
+
+-- "refusal 3 covers a thickness list that is neither empty nor d long"
+pub least-many-iff : (d : ℕ) (given : List ℕ) → (length (leastOf d given) ≡ d) ↔ ((length given ≡ 0) ⊎ (length given ≡ d))
+least-many-iff d [] = ((λ e. inl refl), λ h. length-replicate {A = ℕ} d 1)
+least-many-iff d (t ∷ given) = (inr, ⊎-elim (λ e. absurd (omega arith)) (λ e. e))
+
+-- "1 where none is given": an empty list and a list of ones make the same job
+pub job-of-ones : (p d : ℕ) (extents weights : List ℕ) → jobWith p d extents weights (replicate d 1) ≡ jobWith p d extents weights []
+job-of-ones p zero extents weights = refl
+job-of-ones p (suc d) extents weights = refl
+
+-- and so get the same plan
+pub plan-of-ones : (p d : ℕ) (extents weights : List ℕ) → planAnswer (jobWith p d extents weights (replicate d 1)) ≡ planAnswer (jobWith p d extents weights [])
+plan-of-ones p d extents weights = ap planAnswer (job-of-ones p d extents weights)

@@ -1,23 +1,53 @@
--- The job of a line: the numbers after d in two parts.
+-- The job of a line: the numbers after d in three parts.
 use mathlib.Core.Path.{_≡_, ap, _∙_}
 use mathlib.Core.List.{List}
-use mathlib.Core.Logic.{_↔_, ⊎-elim}
+use mathlib.Core.Logic.{_⊎_, inl, inr, _↔_, ⊎-elim}
 use Prim.Native.Nat.{ℕ, _+_, _-_, _*_, _≤_, _<_, min}
 use native.Mathlib.Omega.{arith}
 use lib.ListN.{length, take, drop, getD, length-take, length-drop, drop-of-length-le}
 use lib.Seq.{take-all, take-add, drop-at, getD-take, length-take-le}
 use Rattle.numerals.proofs.Decimal.{lt-or-le}
 use Rattle.multipartition.specs.Answers.{answered}
+use Rattle.multipartition.specs.Plans.{leastOf}
+use Rattle.multipartition.proofs.Jobs.{least-many-iff}
 use Rattle.plan.specs.Prints.{jobAnswer, programAnswer}
 
--- "3 applies if the numbers after d are not 2·d many"
-pub halves-iff : (d : ℕ) (numbers : List ℕ) → ((length (take d numbers) ≡ d) × (length (drop d numbers) ≡ d)) ↔ (length numbers ≡ 2 * d)
-halves-iff d numbers =
-    let front = length-take d numbers in
-    let back = length-drop d numbers in
-    (λ h. let a = h .0 in let b = h .1 in omega arith, λ e. (omega arith, omega arith))
+-- "refusal 3 means neither 2·d nor 3·d after d"
+pub parts-iff : (d : ℕ) (numbers : List ℕ)
+    → ((length (take d numbers) ≡ d) × (length (take d (drop d numbers)) ≡ d) × (length (leastOf d (drop d (drop d numbers))) ≡ d))
+    ↔ ((length numbers ≡ 2 * d) ⊎ (length numbers ≡ 3 * d))
+parts-iff d numbers = (there, ⊎-elim two three)
+  where
+    first : length (take d numbers) ≡ min d (length numbers)
+    first = length-take d numbers
 
--- the two parts, cut where there are so many numbers
+    others : length (drop d numbers) ≡ length numbers - d
+    others = length-drop d numbers
+
+    second : length (take d (drop d numbers)) ≡ min d (length (drop d numbers))
+    second = length-take d (drop d numbers)
+
+    third : length (drop d (drop d numbers)) ≡ length (drop d numbers) - d
+    third = length-drop d (drop d numbers)
+
+    many : (length (leastOf d (drop d (drop d numbers))) ≡ d) ↔ ((length (drop d (drop d numbers)) ≡ 0) ⊎ (length (drop d (drop d numbers)) ≡ d))
+    many = least-many-iff d (drop d (drop d numbers))
+
+    there : (length (take d numbers) ≡ d) × (length (take d (drop d numbers)) ≡ d) × (length (leastOf d (drop d (drop d numbers))) ≡ d)
+        → (length numbers ≡ 2 * d) ⊎ (length numbers ≡ 3 * d)
+    there h =
+        ⊎-elim
+        (λ e. inl (omega (arith, h .0, h .1, e, first, others, second, third)))
+        (λ e. inr (omega (arith, h .0, h .1, e, first, others, second, third)))
+        (many .0 (h .2))
+
+    two : length numbers ≡ 2 * d → (length (take d numbers) ≡ d) × (length (take d (drop d numbers)) ≡ d) × (length (leastOf d (drop d (drop d numbers))) ≡ d)
+    two e = (omega (arith, first), omega (arith, others, second), many .1 (inl (omega (arith, others, third))))
+
+    three : length numbers ≡ 3 * d → (length (take d numbers) ≡ d) × (length (take d (drop d numbers)) ≡ d) × (length (leastOf d (drop d (drop d numbers))) ≡ d)
+    three e = (omega (arith, first), omega (arith, others, second), many .1 (inr (omega (arith, others, third))))
+
+-- a part, cut where there are so many numbers
 pub take-lesser : (d : ℕ) (numbers : List ℕ) → take (min d (length numbers)) numbers ≡ take d numbers
 take-lesser d numbers = ⊎-elim shorter longer (lt-or-le d (length numbers))
   where
@@ -27,7 +57,7 @@ take-lesser d numbers = ⊎-elim shorter longer (lt-or-le d (length numbers))
     longer : length numbers ≤ d → take (min d (length numbers)) numbers ≡ take d numbers
     longer h = take-all (min d (length numbers)) numbers (omega arith) ∙ rw (take-all d numbers h)
 
-pub drop-lesser : (d : ℕ) (numbers : List ℕ) → drop (min d (length numbers)) numbers ≡ drop d numbers
+drop-lesser : (d : ℕ) (numbers : List ℕ) → drop (min d (length numbers)) numbers ≡ drop d numbers
 drop-lesser d numbers = ⊎-elim shorter longer (lt-or-le d (length numbers))
   where
     shorter : d < length numbers → drop (min d (length numbers)) numbers ≡ drop d numbers
@@ -37,6 +67,14 @@ drop-lesser d numbers = ⊎-elim shorter longer (lt-or-le d (length numbers))
     longer h =
         let some : length numbers ≤ min d (length numbers) = omega arith in
         drop-of-length-le numbers some ∙ rw (drop-of-length-le numbers h)
+
+-- the first d of a list, and those behind them
+pub front-part : (d : ℕ) (numbers : List ℕ) (m : ℕ) → m ≡ min d (length numbers) → take m numbers ≡ take d numbers
+front-part d numbers m e = ap (λ (n : ℕ). take n numbers) e ∙ take-lesser d numbers
+
+pub back-part : (d : ℕ) (numbers : List ℕ) (m : ℕ) → m ≡ min d (length numbers) → take (length numbers - m) (drop m numbers) ≡ drop d numbers
+back-part d numbers m e =
+    take-all (length numbers - m) (drop m numbers) (omega (arith, length-drop m numbers)) ∙ ap (λ (n : ℕ). drop n numbers) e ∙ drop-lesser d numbers
 
 -- the answer to the numbers of a line: they are the first `count` places of a list
 pub program-numbers : (count : ℕ) (numbers : List ℕ) → 2 ≤ count → count ≤ length numbers

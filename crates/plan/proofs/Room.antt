@@ -6,15 +6,15 @@ use mathlib.Core.Logic.{inl, inr, ⊎-elim}
 use Prim.Native.Nat.{ℕ, suc, _+_, _*_, _^_, _≤_, _<_}
 use native.Mathlib.Omega.{arith}
 use lib.ListN.{length, take, drop, getD, length-append, length-take, length-drop, List·getD-eq-default}
-use lib.Seq.{getD-drop}
+use lib.Seq.{getD-take, getD-drop}
 use Rattle.numerals.proofs.Decimal.{lt-or-le}
 use Rattle.multipartition.specs.Answers.{Answer, answered, refused}
 use Rattle.multipartition.specs.Cuts.{costOf}
 use Rattle.multipartition.specs.Plans.{Job, Layout, jobWith, inShape}
-use Rattle.multipartition.specs.Jobs.{PlanFor, planAnswer}
+use Rattle.multipartition.specs.Jobs.{PlanFor, firstOutside, firstZero, planAnswer}
 use Rattle.multipartition.proofs.Answers.{Small}
 use Rattle.multipartition.proofs.Order.{cutCost-le}
-use Rattle.multipartition.proofs.Jobs.{plan-answered, plan-in-shape, plan-small}
+use Rattle.multipartition.proofs.Jobs.{plan-answered, plan-in-shape, plan-small, firstOutside-le, firstZero-le}
 use Rattle.multipartition.proofs.Chosen.{chosen-cut-le}
 use Rattle.layout.specs.Plans.{layoutOf, planOf}
 use Rattle.layout.specs.Sized.{Sized}
@@ -62,6 +62,14 @@ cost-le c w (x ∷ weights) (b ∷ cuts) h k =
     let later = cost-le c w weights cuts (λ i. h (suc i)) (λ i. k (suc i)) in
     omega arith
 
+-- no number of the front of a list is above those of the list
+take-le : (n : ℕ) (xs : List ℕ) (bound : ℕ) → ((i : ℕ) → getD xs i 0 ≤ bound) → (i : ℕ) → getD (take n xs) i 0 ≤ bound
+take-le n xs bound h i =
+    ⊎-elim
+    (λ l. omega (arith, getD-take n xs i 0 l, h i))
+    (λ l. omega (arith, List·getD-eq-default (take n xs) 0 {n = i} (omega (arith, length-take n xs))))
+    (lt-or-le i n)
+
 length-plan : (job : Job) (plan : Layout) → ((i : ℕ) → getD (job .weights) i 0 ≤ largest)
     → planAnswer job ≡ answered plan → length (planText plan) ≤ longestPlan
 unfolding planOf
@@ -83,7 +91,7 @@ length-plan job plan small e =
     cut-high : (i : ℕ) → getD (plan .cuts) i 0 ≤ 4096
     cut-high i =
         ⊎-elim
-        (λ l. chosen-cut-le job (plan .cuts) (made .cuts-are) (made .passed .range .p-low) (made .passed .range .p-high) i l)
+        (λ l. chosen-cut-le job (made .passed) (plan .cuts) (made .cuts-are) i l)
         (λ l. omega (arith, List·getD-eq-default (plan .cuts) 0 l))
         (lt-or-le i (length (plan .cuts)))
 
@@ -92,12 +100,12 @@ length-plan job plan small e =
         omega
         (arith, ap (λ (l : Layout). l .cost) (made .plan-is), cost-le 4096 largest (job .weights) (plan .cuts) small cut-high, sized .cuts-length, sized .few)
 
-length-job : (job : Job) → length (job .extents) < 999 → ((i : ℕ) → getD (job .weights) i 0 ≤ largest)
+length-job : (job : Job) → firstOutside (job .extents) ≤ 999 → firstZero (job .least) ≤ 999 → ((i : ℕ) → getD (job .weights) i 0 ≤ largest)
     → length (answerText (planAnswer job)) ≤ longestPlan
 unfolding answerText
-length-job job few small = go (planAnswer job) refl (plan-small job)
+length-job job extent thickness small = go (planAnswer job) refl (plan-small job 999 extent thickness)
   where
-    go : (a : Answer Layout) → planAnswer job ≡ a → Small (1 + length (job .extents)) a → length (answerText a) ≤ longestPlan
+    go : (a : Answer Layout) → planAnswer job ≡ a → Small 999 a → length (answerText a) ≤ longestPlan
     go (answered plan) e h = length-plan job plan small e
     go (refused number place) e h = omega (arith, length-refused-text 2 number place (omega (arith, h .1)) (omega (arith, h .2)))
 
@@ -110,9 +118,11 @@ prints-length input bytes few p = rw (p .prints) (go (p .read) (p .finds))
     go (answered numbers) f =
         let d = getD numbers 1 0 in
         let rest : List ℕ = drop 2 numbers in
-        length-job (jobWith (getD numbers 0 0) d (take d rest) (drop d rest))
-        (omega (arith, length-take d rest, length-drop 2 numbers, f .0 .few))
-        (λ i. omega (arith, getD-drop d rest i 0, getD-drop 2 numbers (d + i) 0, all-at largest numbers (f .0 .small) (2 + (d + i))))
+        let given : List ℕ = drop d (drop d rest) in
+        length-job (jobWith (getD numbers 0 0) d (take d rest) (take d (drop d rest)) given)
+        (omega (arith, firstOutside-le (take d rest), length-take d rest, length-drop 2 numbers, f .0 .few))
+        (omega (arith, firstZero-le d given, length-drop d (drop d rest), length-drop d rest, length-drop 2 numbers, f .0 .few))
+        (λ i. take-le d (drop d rest) largest (λ j. omega (arith, getD-drop d rest j 0, getD-drop 2 numbers (d + j) 0, all-at largest numbers (f .0 .small) (2 + (d + j)))) i)
     go (refused number place) f =
         let within = place-le input place (f .2) in
         let ten = f .1 in

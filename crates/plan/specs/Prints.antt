@@ -11,10 +11,10 @@ use Rattle.plan_text.specs.PlanText.{answerText}
 use Rattle.plan_text.specs.declared.Printed.{Printed}
 use Rattle.plan_text.specs.Told.{textAnswer, Hands}
 
--- The job of a line is "p, d, the extents, the weights": of the numbers after d the first d are the extents and all others the weights, so
--- that "3 applies if the numbers after d are not 2·d many".
+-- The job of a line is "p, d, the extents, the weights"; document 02, request g: "The text line may end with d thicknesses". Of the numbers after d the
+-- first d are the extents, the next d the weights, and all others the thicknesses, so that "refusal 3 means neither 2·d nor 3·d after d".
 unfoldable pub jobAnswer : ℕ → ℕ → List ℕ → Answer Layout
-jobAnswer p d numbers = planAnswer (jobWith p d (take d numbers) (drop d numbers))
+jobAnswer p d numbers = planAnswer (jobWith p d (take d numbers) (take d (drop d numbers)) (drop d (drop d numbers)))
 
 -- "The text is checked before all else": "after the text come the job checks"
 unfoldable pub programAnswer : Answer (List ℕ) → Answer Layout

@@ -37,8 +37,16 @@ fn lesser(a: usize, b: usize) -> usize
 fn plan_numbers(p: u32, d: usize, numbers: &[u32]) -> Planned
     ensures { λ r. ⌜ r ≡ plannedOf (jobAnswer p d (now (numbers .entry))) ⌝ }
 {
-    let middle = lesser(d, numbers.len());
-    planner::plan_job(p, d, &numbers[..middle], &numbers[middle..])
+    let first = lesser(d, numbers.len());
+    let others = &numbers[first..];
+    let second = lesser(d, others.len());
+    planner::plan_job(
+        p,
+        d,
+        &numbers[..first],
+        &others[..second],
+        &others[second..],
+    )
 }
 
 // What the planner answered, printed.

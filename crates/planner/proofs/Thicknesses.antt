@@ -4,7 +4,7 @@ use mathlib.Core.List.{List, [], _∷_}
 use Prim.Native.Nat.{ℕ, zero, suc, _≤_}
 use native.Mathlib.Omega.{arith}
 use lib.ListN.{length, take, replicate}
-use Rattle.multipartition.specs.Plans.{leastOf, jobWith}
+use Rattle.multipartition.specs.Plans.{leastOf}
 
 pub least-of-given : (d : ℕ) (given : List ℕ) → (length given ≡ 0 → ⊥) → leastOf d given ≡ given
 least-of-given d [] some = absurd (some refl)
@@ -21,8 +21,3 @@ take-replicate (suc n) (suc m) x l = ap (λ (xs : List ℕ). x ∷ xs) (take-rep
 
 pub take-ones : (n d : ℕ) → n ≡ d → d ≤ 5 → take {A = ℕ} n (replicate 5 1) ≡ replicate d 1
 take-ones n d e l = ap (λ (m : ℕ). take {A = ℕ} m (replicate 5 1)) e ∙ take-replicate d 5 1 l
-
--- an empty list and a list of ones make the same job
-pub ones-are-none : (p d : ℕ) (extents weights : List ℕ) → jobWith p d extents weights (replicate d 1) ≡ jobWith p d extents weights []
-ones-are-none p zero extents weights = refl
-ones-are-none p (suc d) extents weights = refl

@@ -8,13 +8,12 @@ use lib.ListN.{length, getD, length-replicate, getD-replicate}
 use Rattle.numbers.specs.Products.{product}
 use Rattle.multipartition.specs.Answers.{Answer, answered, refused}
 use Rattle.multipartition.specs.Cuts.{Fits, costOf}
-use Rattle.multipartition.specs.Jobs.{planAnswer}
+use Rattle.multipartition.specs.Jobs.{firstOutside, firstZero, planAnswer}
 use Rattle.multipartition.specs.Plans.{Job, Layout, jobOf, inShape}
 use Rattle.multipartition.specs.Questions.{ownerBy}
 use Rattle.multipartition.specs.Rivals.{Rival, held}
 use Rattle.multipartition.specs.Tiles.{Inside}
 use Rattle.multipartition.proofs.Answers.{Small}
-use Rattle.multipartition.proofs.Jobs.{placesOf}
 use Rattle.layout.specs.declared.Plan.{Plan}
 use Rattle.layout.specs.Plans.{layoutOf, planOf}
 use Rattle.layout.proofs.Plans.{layout-of-plan}
@@ -136,7 +135,8 @@ diagonal-plans job = go (diagonalAnswer job) refl
         let back : diagonalAnswer job ≡ answered (layoutOf (planOf l)) = e ∙ ap answered (sym (layout-of-plan l (diagonal-answer-sized job l e))) in
         diagonal job (planOf l) (diagonal-answer-in-shape job (layoutOf (planOf l)) back) (diagonal-answered job (layoutOf (planOf l)) .0 back)
     go (refused number place) e z =
-        let small = subst (Small (placesOf job)) e (diagonal-small job) in absurd (omega (arith, small .0, z))
+        let most : ℕ = firstOutside (job .extents) + firstZero (job .least) in
+        let small = subst (Small most) e (diagonal-small job most (omega arith) (omega arith)) in absurd (omega (arith, small .0, z))
 
 -- so every plan that the diagonal call answers is even
 pub diagonal-even : (job : Job) (layout : Layout) → diagonalAnswer job ≡ answered layout → EvenPlan job (planOf layout)

@@ -3,7 +3,7 @@ use mathlib.Core.Bool.{Bool, true}
 use mathlib.Core.List.{List}
 use mathlib.Core.Option.{some}
 use mathlib.Core.Path.{_≡_, refl, sym, ap, _∙_, subst, subst⁻¹}
-use Prim.Native.Nat.{ℕ, _-_, _*_, _/_, _≤_, _<_}
+use Prim.Native.Nat.{ℕ, _+_, _-_, _*_, _/_, _≤_, _<_}
 use native.Mathlib.Omega.{arith}
 use lib.ListN.{length, getD}
 use Rattle.numbers.specs.Products.{product}
@@ -15,7 +15,7 @@ use Rattle.multipartition.specs.Plans.{Job, jobOf, inShape}
 use Rattle.multipartition.specs.Questions.{ownerBy, ownerAnswer, neighbourAnswer}
 use Rattle.multipartition.specs.Rivals.{Rival, held, Balanced}
 use Rattle.multipartition.specs.Tiles.{Inside, oneStepOn}
-use Rattle.multipartition.proofs.BothWays.{owner-answered, neighbour-answered}
+use Rattle.multipartition.proofs.BothWays.{owner-answered, neighbour-answered, slab-no-thinner}
 use Rattle.multipartition.proofs.Fitting.{fits-positive}
 use Rattle.multipartition.proofs.GridSums.{total-ext, held-total}
 use Rattle.multipartition.proofs.Owners.{owner-below-product, share-exact}
@@ -94,6 +94,8 @@ module _ (job : Job) (plan : Plan) (held-job : jobOf (layoutOf plan) ≡ job) (s
     holds-job = held-job;
     in-shape = shaped;
     fits = fits;
+    no-thinner = λ k s ends e.
+        subst (λ (j : Job). ends .0 + getD (j .least) (k - 1) 0 ≤ ends .1) held-job (slab-no-thinner (layoutOf plan) k s ends e);
     owner-answered = λ x w. owner-answers x w ∙ ap answered (sym (owner-by x w));
     owner-below = owner-is-processor;
     cuts-even = even-cuts;

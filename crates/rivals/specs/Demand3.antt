@@ -6,13 +6,13 @@ use mathlib.Core.List.{List}
 use mathlib.Core.Logic.{_⊎_, _↔_, _≢_}
 use mathlib.Core.Option.{some}
 use mathlib.Core.Path.{_≡_}
-use Prim.Native.Nat.{ℕ, _-_, _*_, _/_, _≤_, _<_, _∣_}
+use Prim.Native.Nat.{ℕ, _+_, _-_, _*_, _/_, _≤_, _<_, _∣_}
 use lib.ListN.{length, getD}
 use Rattle.numbers.specs.Products.{product}
 use Rattle.multipartition.specs.Answers.{Answer, answered, refused}
 use Rattle.multipartition.specs.Cuts.{Even, Fits, costOf}
 use Rattle.multipartition.specs.Plans.{Job, jobOf, inShape}
-use Rattle.multipartition.specs.Questions.{ownerAnswer, neighbourAnswer}
+use Rattle.multipartition.specs.Questions.{ownerAnswer, neighbourAnswer, slabAnswer}
 use Rattle.multipartition.specs.Rivals.{Rival, held, Balanced, Face}
 use Rattle.multipartition.specs.Tiles.{Inside, oneStepOn}
 use Rattle.layout.specs.declared.Plan.{Plan}
@@ -39,6 +39,8 @@ pub record EvenPlan (job : Job) (plan : Plan) : Type 0 where
   -- no question about it is refused with 6
   pub in-shape : inShape (layoutOf plan) ≡ true
   pub fits : Fits (job .extents) (job .least) (cutsOf plan)
+  -- document 02, request g: "Slabs no thinner than the stencil": no slab of dimension k, counted from 1, has fewer elements than the job asks for
+  pub no-thinner : (k s : ℕ) (ends : ℕ × ℕ) → slabAnswer (layoutOf plan) k s ≡ answered ends → ends .0 + getD (job .least) (k - 1) 0 ≤ ends .1
   -- the owner question names a processor for every tile
   pub owner-answered : (x : List ℕ) → Inside (cutsOf plan) x → ownerAnswer (layoutOf plan) x ≡ answered (ownerIn plan x)
   pub owner-below : (x : List ℕ) → Inside (cutsOf plan) x → ownerIn plan x < job .p
