@@ -1,4 +1,4 @@
-// Runs the grids of document 01 that are not starred, the examples beside its table, the slabs of document 02's request d, jobs of its request f, and figures of the timetable, on the calls. What it prints is held to the file stdout.
+// Runs the grids of document 01 that are not starred, the examples beside its table, the slabs of document 02's request d, jobs of its requests f and g, and figures of the timetable, on the calls. What it prints is held to the file stdout.
 // Each function writes its lines into a lent list from a place on, and answers the place after them.
 ghost use mathlib.Core.Path.{_≡_};
 ghost use lib.ListN.{length};
@@ -37,11 +37,19 @@ fn put_five(out: &mut [u8], at: usize, word: &[u8], numbers: [u32; 5]) -> usize
     put_line(out, at, word, &numbers)
 }
 
-// The planner's answer to a job: a refusal, or the cuts and the moduli, in five places each.
-fn put_job(out: &mut [u8], at: usize, p: u32, d: usize, extents: &[u32], weights: &[u32]) -> usize
+// The planner's answer to a job with least thicknesses: a refusal, or the cuts and the moduli, in five places each.
+fn put_thick_job<'a>(
+    out: &mut [u8],
+    at: usize,
+    p: u32,
+    d: usize,
+    extents: &'a [u32],
+    weights: &'a [u32],
+    least: &'a [u32],
+) -> usize
     ensures { λ r. ⌜ length (now (out .exit)) ≡ length (now (out .entry)) ⌝ }
 {
-    let planned = planner::plan_job(p, d, extents, weights);
+    let planned = planner::plan_job(p, d, extents, weights, least);
     if planned.number != 0 {
         return put_refused(out, at, planned.number, planned.place);
     }
@@ -50,6 +58,13 @@ fn put_job(out: &mut [u8], at: usize, p: u32, d: usize, extents: &[u32], weights
     let moduli = plan.moduli;
     let next = put_five(out, at, b"cuts ", cuts);
     put_five(out, next, b"mod ", moduli)
+}
+
+// The same for a job without a list of thicknesses.
+fn put_job(out: &mut [u8], at: usize, p: u32, d: usize, extents: &[u32], weights: &[u32]) -> usize
+    ensures { λ r. ⌜ length (now (out .exit)) ≡ length (now (out .entry)) ⌝ }
+{
+    put_thick_job(out, at, p, d, extents, weights, &weights[..0])
 }
 
 // The position of a tile, in five places.
@@ -174,7 +189,7 @@ fn put_squares(out: &mut [u8], at: usize) -> usize
     let ones = [1u32, 1];
     let square = [4096u32, 4096];
     let short = [4096u32, 4095];
-    let planned = planner::plan_job(4096, 2, &square, &ones);
+    let planned = planner::plan_job(4096, 2, &square, &ones, &ones[..0]);
     let mut next = put_job(out, at, 4096, 2, &square, &ones);
     next = put_position(out, next, planned.plan, 16777216);
     next = put_position(out, next, planned.plan, 16777217);
@@ -218,7 +233,7 @@ fn put_slabs(out: &mut [u8], at: usize) -> usize
 {
     let tens = [10u32, 10];
     let ones = [1u32, 1];
-    let planned = planner::plan_job(4, 2, &tens, &ones);
+    let planned = planner::plan_job(4, 2, &tens, &ones, &ones[..0]);
     let mut next = put_four_slabs(out, at, planned.plan);
     next = put_slab(out, next, planned.plan, 1, 4);
     next = put_slab_of(out, next, planned.plan, 1, 5);
@@ -295,7 +310,7 @@ fn put_questions(out: &mut [u8], at: usize) -> usize
 {
     let eights = [8u32, 8, 8];
     let ones = [1u32, 1, 1];
-    let planned = planner::plan_job(4, 3, &eights, &ones);
+    let planned = planner::plan_job(4, 3, &eights, &ones, &ones[..0]);
     let mut next = put_owners(out, at, planned.plan);
     next = put_neighbours(out, next, planned.plan);
     next = put_shape(out, next, planned.plan);
@@ -309,7 +324,7 @@ fn put_uncut(out: &mut [u8], at: usize) -> usize
 {
     let extents = [1u32, 9, 9];
     let ones = [1u32, 1, 1];
-    let planned = planner::plan_job(6, 3, &extents, &ones);
+    let planned = planner::plan_job(6, 3, &extents, &ones, &ones[..0]);
     let next = put_neighbour(out, at, planned.plan, 3, 1, true);
     put_neighbour(out, next, planned.plan, 3, 2, false)
 }
@@ -327,7 +342,7 @@ fn put_step(
 ) -> usize
     ensures { λ r. ⌜ length (now (out .exit)) ≡ length (now (out .entry)) ⌝ }
 {
-    let planned = planner::plan_job(p, extents.len(), extents, weights);
+    let planned = planner::plan_job(p, extents.len(), extents, weights, &weights[..0]);
     let mut next = put_visited(out, at, planned.plan, dimension, up, step, 0);
     next = put_visited(out, next, planned.plan, dimension, up, step, 1);
     next = put_visited(out, next, planned.plan, dimension, up, step, 2);
@@ -399,6 +414,7 @@ fn put_uneven(out: &mut [u8], at: usize) -> usize
     plan.moduli = [1, 6, 0, 0, 0];
     plan.matrix[5] = 2;
     plan.matrix[6] = 3;
+    plan.least = [1, 1, 0, 0, 0];
     put_visited(out, at, plan, 1, true, 0, 1)
 }
 
@@ -412,6 +428,22 @@ fn put_ties(out: &mut [u8], at: usize) -> usize
     next = put_job(out, next, 12, 3, &room[..3], &zeros[..3]);
     next = put_job(out, next, 8, 4, &room[..4], &zeros[..4]);
     put_job(out, next, 3360, 5, &room, &zeros)
+}
+
+// Jobs whose least thicknesses move the cuts or leave none, one of them as large as a number can be.
+fn put_thick(out: &mut [u8], at: usize) -> usize
+    ensures { λ r. ⌜ length (now (out .exit)) ≡ length (now (out .entry)) ⌝ }
+{
+    let forties = [40u32, 40, 40];
+    let ones = [1u32, 1, 1];
+    let sixes = [6u32, 6, 6];
+    let thicker = [7u32, 6, 6];
+    let unlike = [20u32, 2, 2];
+    let huge = [4294967295u32, 1, 1];
+    let mut next = put_thick_job(out, at, 36, 3, &forties, &ones, &sixes);
+    next = put_thick_job(out, next, 36, 3, &forties, &ones, &thicker);
+    next = put_thick_job(out, next, 36, 3, &forties, &ones, &unlike);
+    put_thick_job(out, next, 1, 3, &forties, &ones, &huge)
 }
 
 fn main() {
@@ -428,6 +460,7 @@ fn main() {
     n = put_limits(&mut out, n);
     n = put_uneven(&mut out, n);
     n = put_ties(&mut out, n);
+    n = put_thick(&mut out, n);
     if n <= 4096 {
         let k = io::count(n as isize, &out);
         io::write_all(STDOUT_FILENO, &out[..k]);

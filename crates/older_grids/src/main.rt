@@ -44,7 +44,7 @@ fn put_plan(out: &mut [u8], at: usize, plan: Plan) -> usize
 fn put_job(out: &mut [u8], at: usize, p: u32, d: usize, extents: &[u32], weights: &[u32]) -> usize
     ensures { λ r. ⌜ length (now (out .exit)) ≡ length (now (out .entry)) ⌝ }
 {
-    let planned = diagonal::diagonal_job(p, d, extents, weights);
+    let planned = diagonal::diagonal_job(p, d, extents, weights, &weights[..0]);
     if planned.number != 0 {
         return put_refused(out, at, planned.number, planned.place);
     }
@@ -89,7 +89,7 @@ fn put_first_figure(out: &mut [u8], at: usize) -> usize
 {
     let fours = [4u32, 4, 4];
     let ones = [1u32, 1, 1];
-    let planned = diagonal::diagonal_job(16, 3, &fours, &ones);
+    let planned = diagonal::diagonal_job(16, 3, &fours, &ones, &ones[..0]);
     let next = put_plane(out, at, planned.plan, 0);
     put_plane(out, next, planned.plan, 1)
 }
@@ -139,7 +139,7 @@ fn put_kind(out: &mut [u8], at: usize) -> usize
 {
     let nines = [9u32, 9];
     let ones = [1u32, 1];
-    let planned = diagonal::diagonal_job(3, 2, &nines, &ones);
+    let planned = diagonal::diagonal_job(3, 2, &nines, &ones, &ones[..0]);
     let mut plan = planned.plan;
     plan.kind = 2;
     put_plan(out, at, plan)

@@ -4,9 +4,8 @@ use Prim.Native.Nat.{ℕ, _+_, _≤_}
 use native.Mathlib.Omega.{arith}
 use borrow.Author.Tests.{ne-eqb}
 use lib.Dec.{lit≤}
-use lib.ListN.{length}
 use Rattle.multipartition.specs.Answers.{Answer, answered, refused}
-use Rattle.multipartition.specs.Jobs.{planAnswer}
+use Rattle.multipartition.specs.Jobs.{firstOutside, firstZero, planAnswer}
 use Rattle.multipartition.specs.Plans.{Job, Layout}
 use Rattle.layout.specs.Plans.{planOf, layoutOf, noPlan}
 use Rattle.layout.specs.Sized.{Sized}
@@ -29,10 +28,12 @@ pub plannable-plan : (job : Job) → Plannable (planAnswer job)
 plannable-plan job = record { numbered = numbered-plan job; sized = plan-sized job }
 
 pub plannable-diagonal : (job : Job) → Plannable (diagonalAnswer job)
-plannable-diagonal job = record {
-  numbered = numbered-of-small (1 + length (job .extents)) (diagonalAnswer job) (diagonal-small job);
-  sized = diagonal-answer-sized job;
-}
+plannable-diagonal job =
+    let most : ℕ = firstOutside (job .extents) + firstZero (job .least) in
+    record {
+      numbered = numbered-of-small most (diagonalAnswer job) (diagonal-small job most (omega arith) (omega arith));
+      sized = diagonal-answer-sized job;
+    }
 
 -- ---- the list that a planning call writes is read as the plan that it answers
 

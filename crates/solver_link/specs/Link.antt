@@ -38,13 +38,13 @@ plannedListed places planned =
 abbrev pub ownerListed : ℕ → Answer ℕ → Answer (List ℕ)
 ownerListed places asked = andThen asked (λ q. into places (q ∷ []))
 
--- planning
-unfoldable pub planLink : ℕ → ℕ → List ℕ → List ℕ → ℕ → Answer (List ℕ)
-planLink p d extents weights places = planListed places (planAnswer (jobWith p d extents weights))
+-- planning, with a list of least thicknesses that may be empty (document 02, request g)
+unfoldable pub planLink : ℕ → ℕ → List ℕ → List ℕ → List ℕ → ℕ → Answer (List ℕ)
+planLink p d extents weights least places = planListed places (planAnswer (jobWith p d extents weights least))
 
--- a diagonal plan (document 02, request c)
-unfoldable pub diagonalLink : ℕ → ℕ → List ℕ → List ℕ → ℕ → Answer (List ℕ)
-diagonalLink p d extents weights places = planListed places (diagonalAnswer (jobWith p d extents weights))
+-- a diagonal plan (document 02, request c), likewise
+unfoldable pub diagonalLink : ℕ → ℕ → List ℕ → List ℕ → List ℕ → ℕ → Answer (List ℕ)
+diagonalLink p d extents weights least places = planListed places (diagonalAnswer (jobWith p d extents weights least))
 
 -- the owner of a position of the hypercube layout (document 02, request c): the processor
 unfoldable pub hypercubeOwnerLink : ℕ → List ℕ → ℕ → Answer (List ℕ)

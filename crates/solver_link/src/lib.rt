@@ -30,33 +30,35 @@ fn put_planned(planned: Planned, list: &mut [u32]) -> u64
     link_lists::put_plan(list, found)
 }
 
-// Plans a job: the answer list gets the plan list.
+// Plans a job: the answer list gets the plan list. An empty list of least thicknesses stands for 1 in every dimension.
 #[no_mangle]
-pub extern "C" fn multipartition_plan(
+pub extern "C" fn multipartition_plan<'a>(
     processors: u32,
     dimensions: u32,
-    extents: &[u32],
-    weights: &[u32],
+    extents: &'a [u32],
+    weights: &'a [u32],
+    least: &'a [u32],
     plan: &mut [u32],
 ) -> u64
-    ensures { λ r. ⌜ Linked (planLink processors dimensions (now (extents .entry)) (now (weights .entry)) (length (now (plan .entry)))) (now (plan .entry)) r (now (plan .exit)) ⌝ }
+    ensures { λ r. ⌜ Linked (planLink processors dimensions (now (extents .entry)) (now (weights .entry)) (now (least .entry)) (length (now (plan .entry)))) (now (plan .entry)) r (now (plan .exit)) ⌝ }
 {
-    let planned = planner::plan_job(processors, dimensions as usize, extents, weights);
+    let planned = planner::plan_job(processors, dimensions as usize, extents, weights, least);
     put_planned(planned, plan)
 }
 
-// Plans a job with the diagonal layout: the answer list gets the plan list.
+// Plans a job with the diagonal layout, likewise.
 #[no_mangle]
-pub extern "C" fn multipartition_diagonal(
+pub extern "C" fn multipartition_diagonal<'a>(
     processors: u32,
     dimensions: u32,
-    extents: &[u32],
-    weights: &[u32],
+    extents: &'a [u32],
+    weights: &'a [u32],
+    least: &'a [u32],
     plan: &mut [u32],
 ) -> u64
-    ensures { λ r. ⌜ Linked (diagonalLink processors dimensions (now (extents .entry)) (now (weights .entry)) (length (now (plan .entry)))) (now (plan .entry)) r (now (plan .exit)) ⌝ }
+    ensures { λ r. ⌜ Linked (diagonalLink processors dimensions (now (extents .entry)) (now (weights .entry)) (now (least .entry)) (length (now (plan .entry)))) (now (plan .entry)) r (now (plan .exit)) ⌝ }
 {
-    let planned = diagonal::diagonal_job(processors, dimensions as usize, extents, weights);
+    let planned = diagonal::diagonal_job(processors, dimensions as usize, extents, weights, least);
     put_planned(planned, plan)
 }
 

@@ -1,8 +1,10 @@
 -- `link_lists::put_plan` meets its contract. Assumes nothing.
 use borrow.Author.Needs.{needs}
-use mathlib.Core.Path.{refl, sym, _∙_}
+use mathlib.Core.Path.{_≡_, refl, sym, _∙_}
+use mathlib.Core.List.{List}
+use Prim.Native.Nat.{ℕ, _+_, _≤_}
 use native.Mathlib.Omega.{arith}
-use lib.ListN.{length-set}
+use lib.ListN.{length, set, length-set}
 use Rattle.link_lists.specs.Lists.{listOfPlan}
 use Rattle.link_lists.proofs.Answers.{linked-into, linked-length}
 use Rattle.layout.proofs.Places.{Arrays}
@@ -76,6 +78,10 @@ slice-write-list c =
     let kept = s7 .put-part7 .ensures .1 ∙ s6 .put-part6 .ensures .1 ∙ s5 .put-part5 .ensures .1 ∙ s4 .put-part4 .ensures .1 ∙ s3 .put-part3 .ensures .1 ∙ s2 .put-part2 .ensures .1 ∙ s1 .put-part .ensures .1 ∙ s1 .before .before .before .if1 .left in
     omega (arith, kept)
 
+-- the kind, whatever it is, leaves room for the least thicknesses
+room : (list least : List ℕ) (kind : ℕ) → length list ≡ 55 → length least ≡ 5 → 50 + length least ≤ length (set list 49 kind)
+room list least kind long five = omega (arith, length-set list 49 kind)
+
 put-part-requires-8 : tie.Need-put-part-requires-8
 put-part-requires-8 c κs =
     let s7 = c .before .before .before .before .before .before in
@@ -85,9 +91,9 @@ put-part-requires-8 c κs =
     let s3 = s4 .before .before .before .before .before .before .before in
     let s2 = s3 .before .before .before .before .before .before .before in
     let s1 = s2 .before .before .before .before .before .before .before in
+    let kept = s7 .put-part7 .ensures .1 ∙ s6 .put-part6 .ensures .1 ∙ s5 .put-part5 .ensures .1 ∙ s4 .put-part4 .ensures .1 ∙ s3 .put-part3 .ensures .1 ∙ s2 .put-part2 .ensures .1 ∙ s1 .put-part .ensures .1 ∙ s1 .before .before .before .if1 .left in
     let s = s1 .before .before .before .before .before in
-    let kept = length-set (s7 .put-part7 .last .0) 49 (s .args .t2 .kind) ∙ s7 .put-part7 .ensures .1 ∙ s6 .put-part6 .ensures .1 ∙ s5 .put-part5 .ensures .1 ∙ s4 .put-part4 .ensures .1 ∙ s3 .put-part3 .ensures .1 ∙ s2 .put-part2 .ensures .1 ∙ s1 .put-part .ensures .1 ∙ s1 .before .before .before .if1 .left in
-    omega (arith, kept, arrays s .least-places)
+    room (s7 .put-part7 .last .0) (s .args .t2 .least) _ kept (arrays s .least-places)
 
 same-length : tie.Need-same-length
 same-length c =
