@@ -64,7 +64,7 @@ fn slabs_fit(s: u32, extent: u32, least: u32) -> bool
 }
 
 // Whether s cuts each way fit.
-fn side_fits<'a>(s: u32, extents: &'a [u32], least: &'a [u32]) -> bool
+fn side_fits(s: u32, extents: &[u32], least: &[u32]) -> bool
     requires { ⌜ length (now least) ≡ length (now extents) ⌝ }
     ensures { λ r. ⌜ r ≡ sideFits s (now (extents .entry)) (now (least .entry)) ⌝ }
 {
@@ -136,13 +136,7 @@ fn matrix_of(d: usize, s: u32) -> [u32; 25]
 }
 
 // The plan with s cuts each way.
-fn plan_with<'a>(
-    p: u32,
-    s: u32,
-    extents: &'a [u32],
-    weights: &'a [u32],
-    least: &'a [u32],
-) -> Plan
+fn plan_with(p: u32, s: u32, extents: &[u32], weights: &[u32], least: &[u32]) -> Plan
     requires { ⌜ (2 ≤ length (now extents)) × (length (now extents) ≤ 3) × (length (now weights) ≡ length (now extents)) × (length (now least) ≡ length (now extents)) × (1 ≤ s) × (s ≤ 4096) ⌝ }
     ensures { λ r. ⌜ r ≡ planOf (diagonalPlan (thickJob p (length (now (extents .entry))) (now (extents .entry)) (now (weights .entry)) (now (least .entry))) s) ⌝ }
 {
@@ -162,13 +156,7 @@ fn plan_with<'a>(
 }
 
 // The answer to a job with a list of least thicknesses: its diagonal plan.
-fn diagonal_thick<'a>(
-    p: u32,
-    d: usize,
-    extents: &'a [u32],
-    weights: &'a [u32],
-    least: &'a [u32],
-) -> Planned
+fn diagonal_thick(p: u32, d: usize, extents: &[u32], weights: &[u32], least: &[u32]) -> Planned
     ensures { λ r. ⌜ r ≡ plannedOf (diagonalAnswer (thickJob p d (now (extents .entry)) (now (weights .entry)) (now (least .entry)))) ⌝ }
 {
     if (d < 2) | (5 < d) {
@@ -203,20 +191,11 @@ fn diagonal_thick<'a>(
 }
 
 // The answer to a job: its diagonal plan. An empty list of least thicknesses stands for 1 in every dimension.
-pub fn diagonal_job<'a>(
-    p: u32,
-    d: usize,
-    extents: &'a [u32],
-    weights: &'a [u32],
-    least: &'a [u32],
-) -> Planned
+pub fn diagonal_job(p: u32, d: usize, extents: &[u32], weights: &[u32], least: &[u32]) -> Planned
     ensures { λ r. ⌜ r ≡ plannedOf (diagonalAnswer (jobWith p d (now (extents .entry)) (now (weights .entry)) (now (least .entry)))) ⌝ }
 {
-    if least.len() != 0 {
+    if (least.len() != 0) | (5 < d) {
         return diagonal_thick(p, d, extents, weights, least);
-    }
-    if 5 < d {
-        return refused(1, 0);
     }
     let ones: [u32; 5] = [1; 5];
     diagonal_thick(p, d, extents, weights, &ones[0..d])

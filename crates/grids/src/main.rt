@@ -38,14 +38,14 @@ fn put_five(out: &mut [u8], at: usize, word: &[u8], numbers: [u32; 5]) -> usize
 }
 
 // The planner's answer to a job with least thicknesses: a refusal, or the cuts and the moduli, in five places each.
-fn put_thick_job<'a>(
+fn put_thick_job(
     out: &mut [u8],
     at: usize,
     p: u32,
     d: usize,
-    extents: &'a [u32],
-    weights: &'a [u32],
-    least: &'a [u32],
+    extents: &[u32],
+    weights: &[u32],
+    least: &[u32],
 ) -> usize
     ensures { λ r. ⌜ length (now (out .exit)) ≡ length (now (out .entry)) ⌝ }
 {

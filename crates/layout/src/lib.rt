@@ -130,7 +130,11 @@ fn have_places<'a>(
 ) -> bool
     ensures { λ r. ⌜ r ≡ isLent (now (extents .entry)) (now (cuts .entry)) (now (moduli .entry)) (now (matrix .entry)) (now (least .entry)) ⌝ }
 {
-    (extents.len() == 5) & (cuts.len() == 5) & (moduli.len() == 5) & (matrix.len() == 25) & (least.len() == 5)
+    (extents.len() == 5)
+        & (cuts.len() == 5)
+        & (moduli.len() == 5)
+        & (matrix.len() == 25)
+        & (least.len() == 5)
 }
 
 // Whether the plan of lists, lent, is in shape: that of lists of other lengths than a plan's is not.

@@ -72,18 +72,18 @@ pub fn first_zero(least: &[u32]) -> u32
     requires { ⌜ length (now least) ≤ 5 ⌝ }
     ensures { λ r. ⌜ r ≡ firstZero (now (least .entry)) ⌝ }
 {
-    let mut place: u32 = 0;
+    let mut dimension: u32 = 0;
     for k in 0..least.len() {
-        place = place + 1;
+        dimension = dimension + 1;
         if least[k] < 1 {
-            return place;
+            return dimension;
         }
     }
     0
 }
 
 // The most slabs of each dimension: its extent divided by its least thickness, rounded down.
-fn most_slabs<'a>(extents: &'a [u32], least: &'a [u32]) -> [u32; 5]
+fn most_slabs(extents: &[u32], least: &[u32]) -> [u32; 5]
     requires { ⌜ (length (now extents) ≤ 5) × (Thick (now extents) (now least)) ⌝ }
     ensures { λ r. ⌜ r ≡ five (mostOf (now (extents .entry)) (now (least .entry))) ⌝ }
 {
@@ -95,11 +95,11 @@ fn most_slabs<'a>(extents: &'a [u32], least: &'a [u32]) -> [u32; 5]
 }
 
 // The plan with the cuts chosen.
-fn plan_with<'a>(
+fn plan_with(
     p: u32,
-    extents: &'a [u32],
-    weights: &'a [u32],
-    least: &'a [u32],
+    extents: &[u32],
+    weights: &[u32],
+    least: &[u32],
     cuts: [u32; 5],
     cost: u64,
 ) -> Plan
@@ -128,7 +128,7 @@ fn plan_with<'a>(
 }
 
 // The answer to a job that passes the lines 1 to 4 of the table and 13.
-fn answer<'a>(p: u32, extents: &'a [u32], weights: &'a [u32], least: &'a [u32]) -> Planned
+fn answer(p: u32, extents: &[u32], weights: &[u32], least: &[u32]) -> Planned
     requires { ⌜ (Asked p (now extents) (now weights)) × (Thick (now extents) (now least)) ⌝ }
     ensures { λ r. ⌜ r ≡ plannedOf (planWith (thickJob p (length (now (extents .entry))) (now (extents .entry)) (now (weights .entry)) (now (least .entry))) (cheapest p (now (extents .entry)) (now (least .entry)) (now (weights .entry)))) ⌝ }
 {
@@ -147,13 +147,7 @@ fn answer<'a>(p: u32, extents: &'a [u32], weights: &'a [u32], least: &'a [u32]) 
 }
 
 // The planner's answer to a job with a list of least thicknesses.
-fn plan_thick<'a>(
-    p: u32,
-    d: usize,
-    extents: &'a [u32],
-    weights: &'a [u32],
-    least: &'a [u32],
-) -> Planned
+fn plan_thick(p: u32, d: usize, extents: &[u32], weights: &[u32], least: &[u32]) -> Planned
     ensures { λ r. ⌜ r ≡ plannedOf (planAnswer (thickJob p d (now (extents .entry)) (now (weights .entry)) (now (least .entry)))) ⌝ }
 {
     if (d < 2) | (5 < d) {
@@ -177,20 +171,11 @@ fn plan_thick<'a>(
 }
 
 // The planner's answer to a job; an empty list of least thicknesses stands for 1 in every dimension.
-pub fn plan_job<'a>(
-    p: u32,
-    d: usize,
-    extents: &'a [u32],
-    weights: &'a [u32],
-    least: &'a [u32],
-) -> Planned
+pub fn plan_job(p: u32, d: usize, extents: &[u32], weights: &[u32], least: &[u32]) -> Planned
     ensures { λ r. ⌜ r ≡ plannedOf (planAnswer (jobWith p d (now (extents .entry)) (now (weights .entry)) (now (least .entry)))) ⌝ }
 {
-    if least.len() != 0 {
+    if (least.len() != 0) | (5 < d) {
         return plan_thick(p, d, extents, weights, least);
-    }
-    if 5 < d {
-        return refused(1, 0);
     }
     let ones: [u32; 5] = [1; 5];
     plan_thick(p, d, extents, weights, &ones[0..d])

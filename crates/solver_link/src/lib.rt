@@ -32,12 +32,12 @@ fn put_planned(planned: Planned, list: &mut [u32]) -> u64
 
 // Plans a job: the answer list gets the plan list. An empty list of least thicknesses stands for 1 in every dimension.
 #[no_mangle]
-pub extern "C" fn multipartition_plan<'a>(
+pub extern "C" fn multipartition_plan(
     processors: u32,
     dimensions: u32,
-    extents: &'a [u32],
-    weights: &'a [u32],
-    least: &'a [u32],
+    extents: &[u32],
+    weights: &[u32],
+    least: &[u32],
     plan: &mut [u32],
 ) -> u64
     ensures { λ r. ⌜ Linked (planLink processors dimensions (now (extents .entry)) (now (weights .entry)) (now (least .entry)) (length (now (plan .entry)))) (now (plan .entry)) r (now (plan .exit)) ⌝ }
@@ -48,12 +48,12 @@ pub extern "C" fn multipartition_plan<'a>(
 
 // Plans a job with the diagonal layout, likewise.
 #[no_mangle]
-pub extern "C" fn multipartition_diagonal<'a>(
+pub extern "C" fn multipartition_diagonal(
     processors: u32,
     dimensions: u32,
-    extents: &'a [u32],
-    weights: &'a [u32],
-    least: &'a [u32],
+    extents: &[u32],
+    weights: &[u32],
+    least: &[u32],
     plan: &mut [u32],
 ) -> u64
     ensures { λ r. ⌜ Linked (diagonalLink processors dimensions (now (extents .entry)) (now (weights .entry)) (now (least .entry)) (length (now (plan .entry)))) (now (plan .entry)) r (now (plan .exit)) ⌝ }

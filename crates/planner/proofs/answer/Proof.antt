@@ -76,8 +76,7 @@ plan-with-requires : tie.Need-plan-with-requires
 plan-with-requires c κs =
     let s = c .before .before .before .before .before .before .before .before .before .before in
     let job = s .pre .0 in
-    let cuts = chosen (c .before .before .before) (not-false _ (c .before .if1 .left)) in
-    (
+    let cuts = chosen (c .before .before .before) (not-false _ (c .before .if1 .left)) in (
       (
         job .p-low,
         job .p-high,

@@ -14,17 +14,17 @@ use Rattle.planner.proofs.first_zero.Statement.{statement}
 use Rattle.planner.proofs.first_zero.Tie as tie
 
 abbrev Inv-loop : tie.InvT-loop
-Inv-loop least place₀ k₀ k-end place k =
-    (k ≤ k-end) × (k-end ≡ length least) × (place ≡ k) × (firstFailing (leb 1) (suc k) (drop k least) ≡ firstZero least)
+Inv-loop least dimension₀ k₀ k-end dimension k =
+    (k ≤ k-end) × (k-end ≡ length least) × (dimension ≡ k) × (firstFailing (leb 1) (suc k) (drop k least) ≡ firstZero least)
 
 abbrev μ-loop : tie.MeasureT-loop
-μ-loop least place₀ k₀ k-end place k = k-end - k
+μ-loop least dimension₀ k₀ k-end dimension k = k-end - k
 
 loop-holds : tie.Need-loop-holds Inv-loop μ-loop
 loop-holds c = (omega arith, refl, refl, refl)
 
-add-place : tie.Need-add-place Inv-loop μ-loop
-add-place c = search needs
+add-dimension : tie.Need-add-dimension Inv-loop μ-loop
+add-dimension c = search needs
 
 mul-if1 : tie.Need-mul-if1 Inv-loop μ-loop
 mul-if1 c = search needs
@@ -36,8 +36,8 @@ returns : tie.Need-returns Inv-loop μ-loop
 returns c =
     let head = c .before .before .before .loop in
     let least = c .before .before .before .before .args .least .now in
-    let place : head .place + 1 ≡ suc (head .k) = omega arith in
-    place ∙ sym (failing-here (leb 1) (suc (head .k)) least (head .k) (omega arith) (lt-leb 1 _ (c .if1 .taken))) ∙ head .inv .3
+    let at : head .dimension + 1 ≡ suc (head .k) = omega arith in
+    at ∙ sym (failing-here (leb 1) (suc (head .k)) least (head .k) (omega arith) (lt-leb 1 _ (c .if1 .taken))) ∙ head .inv .3
 
 add-k : tie.Need-add-k Inv-loop μ-loop
 add-k c = search needs
@@ -64,7 +64,7 @@ first-zero-spec =
     Inv-loop
     μ-loop
     loop-holds
-    add-place
+    add-dimension
     mul-if1
     shared-slice-read-if1
     returns

@@ -87,8 +87,7 @@ answer-requires : tie.Need-answer-requires
 answer-requires c κs =
     let all = passes c in
     let a = start (c .before .before .before .before) .args in
-    let range = all .range in
-    (
+    let range = all .range in (
       record { p-low = range .p-low; p-high = range .p-high; d-low = range .d-low; d-high = range .d-high; weights-too = all .weights-many ∙ sym (all .extents-many) },
       thick-of-places (a .extents .now) (a .least .now) (all .least-many ∙ sym (all .extents-many)) (all .least-low),
     )
