@@ -189,7 +189,7 @@ fn put_squares(out: &mut [u8], at: usize) -> usize
     let ones = [1u32, 1];
     let square = [4096u32, 4096];
     let short = [4096u32, 4095];
-    let planned = planner::plan_job(4096, 2, &square, &ones, &ones[..0]);
+    let planned = planner::plan_job(4096, 2, &square, &ones, &ones);
     let mut next = put_job(out, at, 4096, 2, &square, &ones);
     next = put_position(out, next, planned.plan, 16777216);
     next = put_position(out, next, planned.plan, 16777217);
@@ -233,7 +233,7 @@ fn put_slabs(out: &mut [u8], at: usize) -> usize
 {
     let tens = [10u32, 10];
     let ones = [1u32, 1];
-    let planned = planner::plan_job(4, 2, &tens, &ones, &ones[..0]);
+    let planned = planner::plan_job(4, 2, &tens, &ones, &ones);
     let mut next = put_four_slabs(out, at, planned.plan);
     next = put_slab(out, next, planned.plan, 1, 4);
     next = put_slab_of(out, next, planned.plan, 1, 5);
@@ -310,7 +310,7 @@ fn put_questions(out: &mut [u8], at: usize) -> usize
 {
     let eights = [8u32, 8, 8];
     let ones = [1u32, 1, 1];
-    let planned = planner::plan_job(4, 3, &eights, &ones, &ones[..0]);
+    let planned = planner::plan_job(4, 3, &eights, &ones, &ones);
     let mut next = put_owners(out, at, planned.plan);
     next = put_neighbours(out, next, planned.plan);
     next = put_shape(out, next, planned.plan);
@@ -324,7 +324,7 @@ fn put_uncut(out: &mut [u8], at: usize) -> usize
 {
     let extents = [1u32, 9, 9];
     let ones = [1u32, 1, 1];
-    let planned = planner::plan_job(6, 3, &extents, &ones, &ones[..0]);
+    let planned = planner::plan_job(6, 3, &extents, &ones, &ones);
     let next = put_neighbour(out, at, planned.plan, 3, 1, true);
     put_neighbour(out, next, planned.plan, 3, 2, false)
 }

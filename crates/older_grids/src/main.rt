@@ -89,7 +89,7 @@ fn put_first_figure(out: &mut [u8], at: usize) -> usize
 {
     let fours = [4u32, 4, 4];
     let ones = [1u32, 1, 1];
-    let planned = diagonal::diagonal_job(16, 3, &fours, &ones, &ones[..0]);
+    let planned = diagonal::diagonal_job(16, 3, &fours, &ones, &ones);
     let next = put_plane(out, at, planned.plan, 0);
     put_plane(out, next, planned.plan, 1)
 }
@@ -139,7 +139,7 @@ fn put_kind(out: &mut [u8], at: usize) -> usize
 {
     let nines = [9u32, 9];
     let ones = [1u32, 1];
-    let planned = diagonal::diagonal_job(3, 2, &nines, &ones, &ones[..0]);
+    let planned = diagonal::diagonal_job(3, 2, &nines, &ones, &ones);
     let mut plan = planned.plan;
     plan.kind = 2;
     put_plan(out, at, plan)

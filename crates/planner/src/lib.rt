@@ -4,7 +4,7 @@ use layout::Plan;
 use matrix::matrix_of;
 use matrix::moduli_of;
 ghost use mathlib.Core.Path.{_≡_};
-ghost use Prim.Native.Nat.{_≤_};
+ghost use Prim.Native.Nat.{_/_, _≤_};
 ghost use lib.ListN.{length, take};
 ghost use Rattle.multipartition.specs.Answers.{refused as refusal};
 ghost use Rattle.multipartition.specs.Cuts.{Thick, mostOf, costOf, cheapest};
@@ -82,14 +82,22 @@ pub fn first_zero(least: &[u32]) -> u32
     0
 }
 
-// The most slabs of each dimension: its extent divided by its least thickness, rounded down.
+// The most slabs that fit an extent: it divided by the least thickness, rounded down.
+fn most_of(extent: u32, least: u32) -> u32
+    requires { ⌜ 1 ≤ least ⌝ }
+    ensures { λ r. ⌜ r ≡ extent / least ⌝ }
+{
+    extent / least
+}
+
+// The most slabs of each dimension.
 fn most_slabs(extents: &[u32], least: &[u32]) -> [u32; 5]
     requires { ⌜ (length (now extents) ≤ 5) × (Thick (now extents) (now least)) ⌝ }
     ensures { λ r. ⌜ r ≡ five (mostOf (now (extents .entry)) (now (least .entry))) ⌝ }
 {
     let mut most: [u32; 5] = [0; 5];
     for k in 0..extents.len() {
-        most[k] = extents[k] / least[k];
+        most[k] = most_of(extents[k], least[k]);
     }
     most
 }

@@ -26,27 +26,27 @@ abbrev μ-loop : tie.MeasureT-loop
 loop-holds : tie.Need-loop-holds Inv-loop μ-loop
 loop-holds c = (omega arith, refl, refl, (λ i l. absurd (omega arith)), λ i l. at-zeros 5 i)
 
-mul-most : tie.Need-mul-most Inv-loop μ-loop
-mul-most c = search needs
+mul-most-of : tie.Need-mul-most-of Inv-loop μ-loop
+mul-most-of c = search needs
 
-shared-slice-read-most : tie.Need-shared-slice-read-most Inv-loop μ-loop
-shared-slice-read-most c = search needs
+shared-slice-read-most-of : tie.Need-shared-slice-read-most-of Inv-loop μ-loop
+shared-slice-read-most-of c = search needs
 
-mul-most-2 : tie.Need-mul-most-2 Inv-loop μ-loop
-mul-most-2 c = search needs
+mul-most-of-2 : tie.Need-mul-most-of-2 Inv-loop μ-loop
+mul-most-of-2 c = search needs
 
-shared-slice-read-most-2 : tie.Need-shared-slice-read-most-2 Inv-loop μ-loop
-shared-slice-read-most-2 c =
-    let start = c .before .before .before .before in
+shared-slice-read-most-of-2 : tie.Need-shared-slice-read-most-of-2 Inv-loop μ-loop
+shared-slice-read-most-of-2 c =
+    let start = c .before .before .before .before .before .before in
     omega (arith, thick-length (start .args .extents .now) (start .args .least .now) (start .pre .1))
 
-div-most : tie.Need-div-most Inv-loop μ-loop
-div-most c =
-    let start = c .before .before .before .before in
+most-of-requires : tie.Need-most-of-requires Inv-loop μ-loop
+most-of-requires c κs =
+    let start = c .before .before .before .before .before .before in
     thick-low (start .args .extents .now) (start .args .least .now) (start .pre .1) (c .before .before .before .loop .k) (omega arith)
 
-mul-most-3 : tie.Need-mul-most-3 Inv-loop μ-loop
-mul-most-3 c = search needs
+mul-most : tie.Need-mul-most Inv-loop μ-loop
+mul-most c = search needs
 
 array-write-most : tie.Need-array-write-most Inv-loop μ-loop
 array-write-most c = search needs
@@ -59,20 +59,20 @@ loop-less c = search needs
 
 loop-again : tie.Need-loop-again Inv-loop μ-loop
 loop-again c =
-    let head = c .before .before .before .loop in
-    let start = c .before .before .before .before in
-    let here = mostOf-at (start .args .extents .now) (start .args .least .now) (start .pre .1) (head .k) (omega arith) in (
+    let head = c .before .before .before .before .loop in
+    let start = c .before .before .before .before .before .before .before in
+    let here = c .most-of .ensures ∙ sym (mostOf-at (start .args .extents .now) (start .args .least .now) (start .pre .1) (head .k) (omega arith)) in (
       omega arith,
       refl,
       length-set (head .most) (head .k) _ ∙ head .inv .2,
-      filled-more _ (head .most) (head .k) _ (omega arith) (head .inv .3) (sym here),
+      filled-more _ (head .most) (head .k) _ (omega arith) (head .inv .3) here,
       λ i l. getD-set-other (head .most) (head .k) i _ 0 (λ (e : i ≡ head .k). omega arith) ∙ head .inv .4 i (omega arith),
     )
 
 returns : tie.Need-returns Inv-loop μ-loop
 returns c =
     let head = c .before .loop in
-    let start = c .before .before in
+    let start = c .before .before .before .before in
     let many = length-mostOf (start .args .extents .now) (start .args .least .now) (start .pre .1) in
     five-of-filled (head .most) (mostOf (start .args .extents .now) (start .args .least .now)) (head .k) (head .inv .2) (omega (arith, many)) (head .inv .3) (head .inv .4)
 
@@ -83,12 +83,12 @@ most-slabs-spec =
     Inv-loop
     μ-loop
     loop-holds
+    mul-most-of
+    shared-slice-read-most-of
+    mul-most-of-2
+    shared-slice-read-most-of-2
+    most-of-requires
     mul-most
-    shared-slice-read-most
-    mul-most-2
-    shared-slice-read-most-2
-    div-most
-    mul-most-3
     array-write-most
     add-k
     loop-less
