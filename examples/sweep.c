@@ -1,6 +1,7 @@
-/* A solver that sweeps a grid of 9 by 9 by 9 elements on 8 processors: it plans the job, looks at who owns the tiles of one slab, asks to whom a
- * processor hands its results when the sweep along dimension 1 goes on to the next slab, goes through that processor's tiles, and prints the
- * timetable of the sweep: what each processor receives, works on and sends in each step. Then it asks for the two older layouts.
+/* A solver that sweeps a grid of 9 by 9 by 9 elements on 8 processors. Its stencil reads two elements past a tile's edge, so that no slab may be
+ * thinner. It plans the job, looks at who owns the tiles of one slab, asks to whom a processor hands its results when the sweep along dimension 1
+ * goes on to the next slab, goes through that processor's tiles, and prints the timetable of the sweep: what each processor receives, works on and
+ * sends in each step. Then it asks for the two older layouts.
  *
  *     rt staticlib solver_link
  *     cc -Iinclude examples/sweep.c target/staticlib/libsolver_link.a -o target/sweep && target/sweep
@@ -11,7 +12,7 @@
 
 #include "multipartition.h"
 
-enum { D = 3, DIMENSION = 1, SLAB = 1, PROCESSOR = 5 };
+enum { D = 3, DIMENSION = 1, SLAB = 1, PROCESSOR = 5, STENCIL = 2 };
 
 /* Goes on only where the call was not refused. */
 static void check(uint64_t returned)
@@ -87,11 +88,11 @@ static void sweep_up(const uint32_t *plan)
 
 /* The layouts of older input decks. The diagonal layout of three dimensions needs a square number of processors, so this plan of the grid is for 4;
  * it is asked like any other. The hypercube layout has no plan list. */
-static void older_layouts(const uint32_t extents[D], const uint32_t weights[D])
+static void older_layouts(const uint32_t extents[D], const uint32_t weights[D], const uint32_t least[D])
 {
     uint32_t plan[MULTIPARTITION_PLAN_LENGTH], owner[MULTIPARTITION_HYPERCUBE_OWNER_LENGTH];
     const uint32_t position[3] = {3, 0, 2};
-    check(multipartition_diagonal(4, D, extents, D, weights, D, plan, MULTIPARTITION_PLAN_LENGTH));
+    check(multipartition_diagonal(4, D, extents, D, weights, D, least, D, plan, MULTIPARTITION_PLAN_LENGTH));
     for (uint32_t slab = 0; slab < plan[MULTIPARTITION_CUTS]; slab++) {
         printf("in the diagonal layout of 4 processors the tiles of slab %" PRIu32 " of dimension 1 belong to\n", slab);
         print_owners(plan, slab);
@@ -104,8 +105,9 @@ int main(void)
 {
     const uint32_t extents[D] = {9, 9, 9};
     const uint32_t weights[D] = {1, 1, 1};
+    const uint32_t least[D] = {STENCIL, STENCIL, STENCIL};
     uint32_t plan[MULTIPARTITION_PLAN_LENGTH];
-    check(multipartition_plan(8, D, extents, D, weights, D, plan, MULTIPARTITION_PLAN_LENGTH));
+    check(multipartition_plan(8, D, extents, D, weights, D, least, D, plan, MULTIPARTITION_PLAN_LENGTH));
     const uint32_t *cuts = plan + MULTIPARTITION_CUTS;
     printf("%" PRIu32 " processors, %" PRIu32 " by %" PRIu32 " by %" PRIu32 " tiles\n", plan[MULTIPARTITION_PROCESSORS], cuts[0], cuts[1],
            cuts[2]);
@@ -124,6 +126,6 @@ int main(void)
         printf("dimension %d is uncut\n", DIMENSION);
     hand_on(plan);
     sweep_up(plan);
-    older_layouts(extents, weights);
+    older_layouts(extents, weights, least);
     return EXIT_SUCCESS;
 }

@@ -9,14 +9,15 @@
  * - Every call returns. It returns 0 and has written every place of its answer lists, or it returns a refusal and has written nothing.
  *   The refusal is the first of the table below that applies.
  * - What a call returns and writes is settled by its numbers and its lists alone, and it writes no other list.
- * - A plan list is any list of 50 numbers. One that multipartition_plan or multipartition_diagonal wrote is in shape, and its tiles are even: every
+ * - A plan list is any list of 55 numbers. One that multipartition_plan or multipartition_diagonal wrote is in shape, and its tiles are even: every
  *   processor owns equally many tiles in every slab of every dimension. One that is made or changed by hand is answered by the same formulas where
  *   it is in shape, and refused with 6 where it is not; of such a list it is not said that its tiles are even, whatever its kind.
  * - The cuts that multipartition_plan writes are the cheapest of all even cuts that fit, where a dimension costs (cut - 1) * weight; among equal costs
- *   those with the fewest tiles, and among these the ones with the smaller cut at the first dimension that differs.
+ *   those with the fewest tiles, and among these the ones with the smaller cut at the first dimension that differs. Cuts fit if each cut times the
+ *   least thickness of its dimension is at most the extent. An empty list of least thicknesses and a list of ones get the same plan.
  * - In every plan list in shape the slabs of a dimension hold each of its elements once, and multipartition_slab_of names the slab that holds it. The
  *   first (extent modulo cut) slabs have one element more than the others; so no slab has more elements than one before it, nor fewer than the extent
- *   divided by the cut, rounded down, and two of them differ by at most one.
+ *   divided by the cut, rounded down, and two of them differ by at most one. Every slab has at least the least thickness of its dimension.
  * - The answers of multipartition_timetable fit together, for every plan list in shape: what a processor sends after a step is exactly what its
  *   receiver expects before the next, and the receiver names the sender; except after the last step, the lengths that all processors send after a
  *   step add up to the product of the extents of the other dimensions; no length is cut off to 32 bits. For a list that multipartition_plan or
@@ -31,8 +32,9 @@
  * What a caller must see to, since C does not check it: every pointer is not null, also for a list of length 0, points to as many numbers as
  * its length says, no answer list shares a place with another list of the call, and the thread has the stack that the call needs, which is
  * measured and not proved (MULTIPARTITION_PLAN_STACK and the like below). Where slabs begin is not in a plan list, and earlier archives had other
- * edges for the same list and, among equal costs, other cuts for the same job: all programs of a run link one archive, and data stored by slab or by
- * tile are read by the edges and the plan that they were written with.
+ * edges for the same list and, among equal costs, other cuts for the same job, and knew no least thicknesses, which the two planning calls now take:
+ * all programs of a run are compiled with this header and link one archive, and data stored by slab or by tile are read by the edges and the plan
+ * that they were written with.
  */
 #ifndef MULTIPARTITION_H
 #define MULTIPARTITION_H
@@ -44,10 +46,12 @@
 extern "C" {
 #endif
 
-/* The places of a plan list. Extents, weights, cuts and moduli have five places each, for dimension 1 first; the matrix has five rows of
- * five places, row after row. Places past the number of dimensions are 0 in a list that a call wrote, and are never read. The cost is the sum of
- * (cut - 1) * weight over the dimensions; no question reads it. The kind says which call wrote the list; no answer depends on which of the two it
- * is. Lists had 49 numbers before they had a kind: such a list is refused with 6. */
+/* The places of a plan list. Extents, weights, cuts, moduli and least thicknesses have five places each, for dimension 1 first; the matrix has five
+ * rows of five places, row after row. Places past the number of dimensions are 0 in a list that a call wrote, and are never read. The cost is the sum
+ * of (cut - 1) * weight over the dimensions; no question reads it. The kind says which call wrote the list; no answer depends on which of the two it
+ * is. The least thicknesses are those of the job, or ones where it gave none; a list in which one is 0, or times the cut above the extent, is out of
+ * shape, and nothing else depends on them. Lists had 49 numbers before they had a kind, and 50 before they had least thicknesses: such a list is
+ * refused with 6. */
 enum {
     MULTIPARTITION_DIMENSIONS = 0, /* d, the number of dimensions */
     MULTIPARTITION_PROCESSORS = 1, /* p, the number of processors */
@@ -58,8 +62,9 @@ enum {
     MULTIPARTITION_COST_HIGH = 18,
     MULTIPARTITION_MODULI = 19,
     MULTIPARTITION_MATRIX = 24,
-    MULTIPARTITION_KIND = 49, /* 0 for the planner's plans, 1 for diagonal ones; a list with another kind is out of shape */
-    MULTIPARTITION_PLAN_LENGTH = 50,
+    MULTIPARTITION_KIND = 49,  /* 0 for the planner's plans, 1 for diagonal ones; a list with another kind is out of shape */
+    MULTIPARTITION_LEAST = 50, /* the least thickness of the slabs of each dimension, in elements */
+    MULTIPARTITION_PLAN_LENGTH = 55,
     MULTIPARTITION_ROW_LENGTH = 5 /* row i, counted from 0, starts at MULTIPARTITION_MATRIX + i * MULTIPARTITION_ROW_LENGTH */
 };
 
@@ -124,10 +129,11 @@ enum multipartition_number {
     MULTIPARTITION_BAD_DIMENSIONS = 1,     /* d is not 2 to 5 */
     MULTIPARTITION_BAD_PROCESSORS = 2,     /* p is not 1 to 4,096 */
     MULTIPARTITION_UNSUITED = 12,          /* p or d does not suit the layout */
-    MULTIPARTITION_BAD_JOB_LENGTH = 3,     /* not d extents and d weights */
+    MULTIPARTITION_BAD_JOB_LENGTH = 3,     /* not d extents and d weights, or least thicknesses that are neither none nor d many */
     MULTIPARTITION_BAD_EXTENT = 4,         /* an extent is not 1 to 1,000,000; the place is the first such dimension */
-    MULTIPARTITION_NO_CUTS = 5,            /* no cuts that fit are even; or a cut of the diagonal layout is above its extent */
-    MULTIPARTITION_BAD_PLAN = 6,           /* the plan list has another length than 50, or its plan is out of shape */
+    MULTIPARTITION_BAD_THICKNESS = 13,     /* a least thickness is 0; the place is the first such dimension */
+    MULTIPARTITION_NO_CUTS = 5,            /* no cuts that fit are even; or the cuts of the diagonal layout do not fit */
+    MULTIPARTITION_BAD_PLAN = 6,           /* the plan list has another length than 55, or its plan is out of shape */
     MULTIPARTITION_BAD_DIMENSION = 7,      /* the dimension is not 1 to d */
     MULTIPARTITION_OTHER_EXTENTS = 11,     /* the product of the extents of the other dimensions is above 4,294,967,295 */
     MULTIPARTITION_OUT_OF_RANGE = 8,       /* a slab, element, tile, coordinate, step or processor out of range, or a wrong number of coordinates */
@@ -145,20 +151,24 @@ static inline uint32_t multipartition_place_of(uint64_t returned)
     return (uint32_t)(returned >> 32);
 }
 
-/* Plans a job: the even cuts that fit and cost least, and the rule that says who owns each tile.
- * The answer list is a plan list. Refused with 1, 2, 3, 4, 5, then 9. */
+/* Plans a job: the even cuts that fit and cost least, and the rule that says who owns each tile. `least` says for each dimension how many elements
+ * every slab must have, from 1 to 4,294,967,295: for a stencil, as many as it reads past a tile's edge. An empty list says 1 for every dimension.
+ * The answer list is a plan list. Refused with 1, 2, 3, 4, 13, 5, then 9. */
 uint64_t multipartition_plan(uint32_t processors, uint32_t dimensions,
                              const uint32_t *extents, size_t extents_length,
                              const uint32_t *weights, size_t weights_length,
+                             const uint32_t *least, size_t least_length,
                              uint32_t *plan, size_t plan_length);
 
 /* Plans a job with the diagonal layout. For d = 2 there are p cuts each way, and the tile at i1 i2 belongs to (i1 - i2) modulo p. For d = 3 and
  * p = s * s there are s cuts each way, and the tile at i1 i2 i3 belongs to ((i1 - i3) modulo s) * s + ((i2 - i3) modulo s). Here i counts from 0,
  * and a number modulo m is 0 to m - 1, also where the number is negative. multipartition_plan accepts every job that this call accepts, and costs no
- * more. The answer list is a plan list. Refused with 1, 2, 12 (d is 4 or 5, or d is 3 and p is not a square), 3, 4, 5, then 9. */
+ * more. `least` is as there. The answer list is a plan list. Refused with 1, 2, 12 (d is 4 or 5, or d is 3 and p is not a square), 3, 4, 13, 5, then
+ * 9. */
 uint64_t multipartition_diagonal(uint32_t processors, uint32_t dimensions,
                                  const uint32_t *extents, size_t extents_length,
                                  const uint32_t *weights, size_t weights_length,
+                                 const uint32_t *least, size_t least_length,
                                  uint32_t *plan, size_t plan_length);
 
 /* Who owns the tile at a position. Refused with 6, 8, 9. */

@@ -188,7 +188,7 @@ mod tests {
             let d = random.between(2, 5) as usize;
             let p = random.between(1, 40) as u32;
             let weights: Vec<u32> = (0..d).map(|_| random.between(0, 9) as u32).collect();
-            let mut plan = plan_job(p, d as u32, &vec![99; d], &weights).unwrap();
+            let mut plan = plan_job(p, d as u32, &vec![99; d], &weights, &[]).unwrap();
             match random.between(0, 3) {
                 // A hand-made plan in shape: any rows, or other cuts.
                 0 => {
@@ -205,6 +205,12 @@ mod tests {
                 }
                 _ => (),
             }
+            // As thick as may be.
+            if random.once_in(2) {
+                for k in 0..d {
+                    plan.least[k] = plan.extents[k] / plan.cuts[k];
+                }
+            }
             let list = list_of(&plan);
             runs += u32::from(consecutive(&list));
             let tiles = plan.tiles() as usize;
@@ -219,7 +225,7 @@ mod tests {
 
     #[test]
     fn refused_lists_keep_their_contents() {
-        let list = list_of(&plan_job(4, 3, &[8; 3], &[1; 3]).unwrap());
+        let list = list_of(&plan_job(4, 3, &[8; 3], &[1; 3], &[]).unwrap());
         let (mut heads, mut nexts) = ([7; 4], [7; 9]);
         assert_eq!(chains(&list, &mut heads, &mut nexts), Err(9));
         assert_eq!(chains(&list[1..], &mut heads, &mut nexts), Err(6));

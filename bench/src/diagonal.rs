@@ -1,16 +1,23 @@
-//! Diagonal plans over plain lists, by request c of document 02, with its checks in their order: 1 for d, 2 for p, 12
-//! for p and d together, 3 and 4 for the lists, 5 for the cuts, 9 for the answer list.
+//! Diagonal plans over plain lists, by requests c and g of document 02, with their checks in their order: 1 for d, 2 for
+//! p, 12 for p and d together, 3, 4 and 13 for the lists, 5 for the cuts, 9 for the answer list.
 
 use crate::plan_list::{
-    PlanList, COST_HIGH, COST_LOW, CUTS, DIMENSIONS, EXTENTS, KIND, MATRIX, MODULI, PLAN_LENGTH,
-    PROCESSORS, ROW_LENGTH, WEIGHTS,
+    PlanList, COST_HIGH, COST_LOW, CUTS, DIMENSIONS, EXTENTS, KIND, LEAST, MATRIX, MODULI,
+    PLAN_LENGTH, PROCESSORS, ROW_LENGTH, WEIGHTS,
 };
 use crate::subject::Returned;
 
 /// The diagonal plan of a job; the answer is a plan list.
-pub fn diagonal(p: u32, d: u32, extents: &[u32], weights: &[u32], answer: &mut [u32]) -> Returned {
+pub fn diagonal(
+    p: u32,
+    d: u32,
+    extents: &[u32],
+    weights: &[u32],
+    least: &[u32],
+    answer: &mut [u32],
+) -> Returned {
     match side_of(p, d) {
-        Ok(side) => laid(d as usize, p, side, extents, weights, answer),
+        Ok(side) => laid(d as usize, p, side, extents, weights, least, answer),
         Err(refused) => refused,
     }
 }
@@ -21,11 +28,12 @@ pub fn diagonal_for_each_d(
     d: u32,
     extents: &[u32],
     weights: &[u32],
+    least: &[u32],
     answer: &mut [u32],
 ) -> Returned {
     match side_of(p, d) {
-        Ok(side) if d == 2 => laid(2, p, side, extents, weights, answer),
-        Ok(side) => laid(3, p, side, extents, weights, answer),
+        Ok(side) if d == 2 => laid(2, p, side, extents, weights, least, answer),
+        Ok(side) => laid(3, p, side, extents, weights, least, answer),
         Err(refused) => refused,
     }
 }
@@ -61,9 +69,11 @@ fn laid(
     side: u32,
     extents: &[u32],
     weights: &[u32],
+    least: &[u32],
     answer: &mut [u32],
 ) -> Returned {
-    if extents.len() != d || weights.len() != d {
+    let given = !least.is_empty();
+    if extents.len() != d || weights.len() != d || given && least.len() != d {
         return 3;
     }
     for (extent, place) in extents.iter().zip(1..) {
@@ -71,7 +81,18 @@ fn laid(
             return 4 | place << 32;
         }
     }
-    if extents.iter().any(|&extent| side > extent) {
+    if given {
+        for (&thickness, place) in least.iter().zip(1..) {
+            if thickness == 0 {
+                return 13 | place << 32;
+            }
+        }
+        for (&extent, &thickness) in extents.iter().zip(least) {
+            if u64::from(side) * u64::from(thickness) > u64::from(extent) {
+                return 5;
+            }
+        }
+    } else if extents.iter().any(|&extent| side > extent) {
         return 5;
     }
     let Ok(list) = <&mut PlanList>::try_from(answer) else {
@@ -82,6 +103,9 @@ fn laid(
     list[PROCESSORS] = p;
     list[KIND] = 1;
     put_dimensions(side, &extents[..d], &weights[..d], list);
+    for k in 0..d {
+        list[LEAST + k] = if given { least[k] } else { 1 };
+    }
     put_matrix(d, side, list);
     0
 }
@@ -115,14 +139,15 @@ fn put_matrix(d: usize, side: u32, list: &mut PlanList) {
 #[cfg(test)]
 mod tests {
     use super::*;
+    use crate::jobs::{thicken, Job};
     use crate::plan_list::list_of;
-    use link::questions::{job_for_diagonal, lent, Job};
-    use oracle::diagonal::diagonal_job;
+    use link::questions::{job_for_diagonal, lent};
     use oracle::random::Random;
 
     /// What the oracle leaves in a list of so many places.
     fn expected(job: &Job, places: usize) -> Result<PlanList, Returned> {
-        let plan = diagonal_job(job.p, job.d, &job.extents, &job.weights)
+        let plan = job
+            .diagonal()
             .map_err(|refusal| u64::from(refusal.number) | (refusal.place as u64) << 32)?;
         if places == PLAN_LENGTH {
             Ok(list_of(&plan))
@@ -134,23 +159,30 @@ mod tests {
     #[test]
     fn plans_as_the_oracle_lays_them() {
         let mut random = Random::new(16);
-        let mut seen = [0; 13];
+        let mut seen = [0; 14];
+        let mut thick = 0;
         for _ in 0..40_000 {
-            let job = job_for_diagonal(&mut random);
+            let mut job = job_for_diagonal(&mut random);
+            if random.once_in(2) {
+                thicken(&mut random, &mut job);
+            }
             let before = lent(&mut random, PLAN_LENGTH);
             let expected = match expected(&job, before.len()) {
                 Ok(list) => (0, list.to_vec()),
                 Err(refused) => (refused, before.clone()),
             };
+            let [extents, weights, least] = [&job.extents, &job.weights, &job.least];
             for rival in [diagonal, diagonal_for_each_d] {
                 let mut answer = before.clone();
-                let returned = rival(job.p, job.d, &job.extents, &job.weights, &mut answer);
+                let returned = rival(job.p, job.d, extents, weights, least, &mut answer);
                 assert_eq!((returned, answer), expected, "{job:?}");
             }
             seen[expected.0 as u32 as usize] += 1;
+            thick += u32::from(expected.0 == 0 && job.least.iter().any(|&t| t > 1));
         }
-        let met = [0, 1, 2, 3, 4, 5, 9, 12];
+        let met = [0, 1, 2, 3, 4, 5, 9, 12, 13];
         assert!(met.iter().all(|&n| seen[n] > 100), "{seen:?}");
+        assert!(thick > 1000, "{thick}");
     }
 
     #[test]

@@ -1,8 +1,8 @@
 //! The jobs, plans and questions that are timed.
 
 use crate::plan_list::{list_of, PlanList, PLAN_LENGTH};
-pub use link::questions::Job;
 use link::questions::{hypercube, job_for_diagonal, lent};
+pub use oracle::plan::Job;
 use oracle::plan::{plan_job, Plan};
 use oracle::random::Random;
 
@@ -20,6 +20,7 @@ pub fn other_weights(seed: u64, d: u32) -> Vec<Job> {
         d,
         weights: weights(&mut random, d),
         extents: extents(&mut random, p, d),
+        least: Vec::new(),
     };
     (1..=4096).map(job).collect()
 }
@@ -29,6 +30,27 @@ pub fn mix(seed: u64) -> Vec<Job> {
     (2..=5).flat_map(|d| other_weights(seed, d)).collect()
 }
 
+/// Jobs without thicknesses, two for every p up to 4,096, and the same with thicknesses of 2 and 3, each extent as
+/// many times as large. The same cuts fit in both.
+pub fn thin_and_thick(seed: u64, d: u32) -> (Vec<Job>, Vec<Job>) {
+    let mut thin = [one_weight(d, 1), other_weights(seed, d)].concat();
+    for extent in thin.iter_mut().flat_map(|job| &mut job.extents) {
+        // As roomy as a grid must be, so that three times as many elements are not too many.
+        *extent = (*extent).min(300_000);
+    }
+    let mut random = Random::new(seed);
+    let thickened = |job: &Job| {
+        let least: Vec<u32> = (0..d).map(|_| random.between(2, 3) as u32).collect();
+        Job {
+            extents: job.extents.iter().zip(&least).map(|(n, t)| n * t).collect(),
+            least,
+            ..job.clone()
+        }
+    };
+    let thick = thin.iter().map(thickened).collect();
+    (thin, thick)
+}
+
 /// A job on a grid in which all cuts fit.
 fn roomy(p: u32, weights: &[u32]) -> Job {
     Job {
@@ -36,6 +58,7 @@ fn roomy(p: u32, weights: &[u32]) -> Job {
         d: weights.len() as u32,
         extents: vec![1_000_000; weights.len()],
         weights: weights.to_vec(),
+        least: Vec::new(),
     }
 }
 
@@ -63,7 +86,8 @@ fn extents(random: &mut Random, p: u32, d: u32) -> Vec<u32> {
         return roomy;
     }
     let any: Vec<u32> = (0..d).map(|_| random.between(0, 999) as u32).collect();
-    let cuts = oracle::cuts::elementary(p, &roomy, &any).expect("a roomy grid has cuts");
+    let ones = vec![1; d as usize];
+    let cuts = oracle::cuts::elementary(p, &roomy, &ones, &any).expect("a roomy grid has cuts");
     let around = |b: u32| match random.between(0, 4) {
         0 => (b - 1).max(1),
         1 | 2 => b,
@@ -106,6 +130,7 @@ pub fn hard() -> Vec<Job> {
                     d: 5,
                     extents: extents.to_vec(),
                     weights: weights.to_vec(),
+                    least: Vec::new(),
                 });
             }
         }
@@ -130,10 +155,45 @@ pub fn largest() -> Job {
 pub fn any_diagonals(seed: u64, count: usize) -> Vec<(Job, Vec<u32>)> {
     let mut random = Random::new(seed);
     let job = |_| {
-        let job = job_for_diagonal(&mut random);
+        let mut job = job_for_diagonal(&mut random);
+        if random.once_in(2) {
+            thicken(&mut random, &mut job);
+        }
         (job, lent(&mut random, PLAN_LENGTH))
     };
     (0..count).map(job).collect()
+}
+
+/// Gives a job other thicknesses: small ones, most often on a grid that is as many times as large or just too small for
+/// that; once in a while one that is 0, as large as the extent or larger, or another number of them.
+pub fn thicken(random: &mut Random, job: &mut Job) {
+    job.least = job
+        .extents
+        .iter()
+        .map(|_| random.between(1, 4) as u32)
+        .collect();
+    let Some(last) = job.least.len().checked_sub(1) else {
+        return;
+    };
+    let k = random.between(0, last as u64) as usize;
+    let extent = job.extents[k];
+    match random.between(0, 9) {
+        0 => job.least[k] = 0,
+        1 => job.least[k] = *random.pick(&[extent, extent.saturating_add(1), 1 << 31, u32::MAX]),
+        2 => job.least.resize(random.between(0, 6) as usize, 1),
+        3..=4 => (),
+        _ => {
+            for (extent, thickness) in job.extents.iter_mut().zip(&job.least) {
+                // An extent out of range stays as it is.
+                *extent = extent
+                    .saturating_mul(*thickness)
+                    .min(1_000_000.max(*extent));
+            }
+            if random.once_in(4) {
+                job.extents[k] = job.extents[k].saturating_sub(1);
+            }
+        }
+    }
 }
 
 /// Jobs for 4,096 processors on the grids that diagonal plans just fit, with weights of many kinds.
@@ -146,6 +206,7 @@ pub fn diagonals(seed: u64, count: usize) -> Vec<(&'static str, Vec<Job>)> {
             d,
             extents: extents.to_vec(),
             weights: weights(&mut random, d),
+            least: Vec::new(),
         };
         (0..count).map(job).collect()
     };
@@ -174,7 +235,13 @@ pub fn hypercube_positions(seed: u64, count: usize) -> Vec<[u32; 3]> {
 
 /// The job as the program reads it.
 pub fn line(job: &Job) -> String {
-    let numbers = [&[job.p, job.d], &job.extents[..], &job.weights[..]].concat();
+    let numbers = [
+        &[job.p, job.d],
+        &job.extents[..],
+        &job.weights[..],
+        &job.least[..],
+    ]
+    .concat();
     let words: Vec<String> = numbers.iter().map(u32::to_string).collect();
     words.join(" ") + "\n"
 }
@@ -200,7 +267,8 @@ pub fn questions(seed: u64, count: usize) -> Vec<Question> {
             // A prime, so that elements are left over wherever the cut is above 1.
             let extents = vec![99_991; d];
             let weights: Vec<u32> = (0..d).map(|_| random.between(1, 9) as u32).collect();
-            plans.push(plan_job(p, d as u32, &extents, &weights).expect("a roomy grid has cuts"));
+            let plan = plan_job(p, d as u32, &extents, &weights, &[]);
+            plans.push(plan.expect("a roomy grid has cuts"));
         }
     }
     (0..count)
@@ -237,7 +305,7 @@ pub struct Visit {
 /// the most slabs: 64 of them where there are 64 slabs each way, and many more in the other plans.
 pub fn sweeps() -> Vec<(&'static str, Vec<Visit>)> {
     let planned = |p, extents: &[u32], weights: &[u32]| {
-        plan_job(p, extents.len() as u32, extents, weights).expect("the grid has cuts")
+        plan_job(p, extents.len() as u32, extents, weights, &[]).expect("the grid has cuts")
     };
     let cube = planned(4096, &[1000; 3], &[1; 3]);
     // The most rows that the planner's plans of three, four and five dimensions have in a slab, if the dimension swept
@@ -286,9 +354,9 @@ fn visits(plan: &Plan, dimensions: &[u32]) -> Vec<Visit> {
 
 /// Plans of 16,777,216 tiles.
 pub fn largest_grids() -> Vec<(&'static str, PlanList)> {
-    let two = plan_job(4096, 2, &[4096; 2], &[1; 2]).expect("the grid of document 01");
+    let two = plan_job(4096, 2, &[4096; 2], &[1; 2], &[]).expect("the grid of document 01");
     // Uncut in one dimension, since the other weights are nothing beside the first.
-    let three = plan_job(4096, 3, &[4096; 3], &[u32::MAX, 0, 0]).expect("a roomy grid");
+    let three = plan_job(4096, 3, &[4096; 3], &[u32::MAX, 0, 0], &[]).expect("a roomy grid");
     // Larger even cuts than the planner's own, with moduli and matrix by the same formulas.
     let cubes = by_hand(4096, &[256, 256, 256]);
     let five = by_hand(2048, &[16, 16, 16, 64, 64]);
@@ -304,7 +372,7 @@ pub fn largest_grids() -> Vec<(&'static str, PlanList)> {
 
 fn by_hand(p: u32, cuts: &[u32]) -> Plan {
     let d = cuts.len();
-    let mut plan = plan_job(p, d as u32, &vec![4096; d], &vec![1; d]).expect("a roomy grid");
+    let mut plan = plan_job(p, d as u32, &vec![4096; d], &vec![1; d], &[]).expect("a roomy grid");
     plan.cuts[..d].copy_from_slice(cuts);
     let moduli = oracle::matrix::moduli(p, cuts);
     for (i, row) in oracle::matrix::matrix(cuts, &moduli).iter().enumerate() {
@@ -314,10 +382,24 @@ fn by_hand(p: u32, cuts: &[u32]) -> Plan {
     plan
 }
 
+/// Gives a plan thicknesses that fit, or, once in a while, one that does not.
+#[cfg(test)]
+pub fn thicken_plan(random: &mut Random, plan: &mut Plan) {
+    let most = |k: usize| u64::from(plan.extents[k] / plan.cuts[k]);
+    let d = plan.dimensions();
+    let mut least: Vec<u32> = (0..d).map(|k| random.between(1, most(k)) as u32).collect();
+    if random.once_in(20) {
+        let k = random.between(0, d as u64 - 1) as usize;
+        least[k] = *random.pick(&[0, most(k) as u32 + 1, u32::MAX]);
+    }
+    plan.least[..d].copy_from_slice(&least);
+}
+
 #[cfg(test)]
 mod tests {
     use super::*;
     use crate::plan_list::{in_shape, tiles, CUTS, DIMENSIONS};
+    use crate::planning::remembered;
     use crate::subject::RIVAL;
 
     #[test]
@@ -325,6 +407,35 @@ mod tests {
         for (what, plan) in largest_grids() {
             assert!(in_shape(&plan), "{what}");
             assert_eq!(tiles(&plan), 16_777_216, "{what}");
+        }
+    }
+
+    /// Thin and thick jobs are cut alike, or refused alike.
+    #[test]
+    fn thick_jobs_are_cut_as_thin_ones() {
+        let cuts = |job: &Job| {
+            let plan = remembered(job.p, job.d, &job.extents, &job.weights, &job.least);
+            plan.map(|list| list[CUTS..][..5].to_vec())
+        };
+        for d in 2..=5 {
+            let (thin, thick) = thin_and_thick(1, d);
+            let mut refused = 0;
+            for (thin, thick) in thin.iter().zip(&thick) {
+                let chosen = cuts(thin);
+                assert_eq!(cuts(thick), chosen, "{thick:?}");
+                assert!(chosen
+                    .as_ref()
+                    .err()
+                    .is_none_or(|&refusal| refusal == (5, 0)));
+                assert!(thin.least.is_empty());
+                refused += u32::from(chosen.is_err());
+            }
+            let thicknesses = thick.iter().flat_map(|job| job.least.iter());
+            let [twos, threes] = [2, 3].map(|n| thicknesses.clone().filter(|&&t| t == n).count());
+            let all = thick.len() * d as usize;
+            assert_eq!(twos + threes, all);
+            assert!(twos > all / 3 && threes > all / 3, "{twos}, {threes}");
+            assert!((300..3000).contains(&refused), "{refused}");
         }
     }
 

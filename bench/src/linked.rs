@@ -12,9 +12,9 @@ fn told(returned: u64) -> Told {
     }
 }
 
-fn plan(p: u32, d: u32, extents: &[u32], weights: &[u32]) -> Planned {
+fn plan(p: u32, d: u32, extents: &[u32], weights: &[u32], least: &[u32]) -> Planned {
     let mut list = [0; PLAN_LENGTH];
-    match calls::plan(p, d, extents, weights, &mut list) {
+    match calls::plan(p, d, extents, weights, least, &mut list) {
         0 => Ok(list),
         refused => Err((refused as u32, (refused >> 32) as u32)),
     }

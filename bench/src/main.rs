@@ -13,9 +13,9 @@ use std::process::{Command, ExitCode, Stdio};
 use bench::diagonal;
 use bench::jobs::{self, Job, Question, Visit};
 use bench::linked::PROVED;
-use bench::plan_list::{COST_LOW, PLAN_LENGTH, PROCESSORS};
+use bench::plan_list::{COST_LOW, LEAST, PLAN_LENGTH, PROCESSORS, WEIGHTS};
 use bench::planning;
-use bench::subject::{DiagonalCall, PlanCall, Returned, Subject, Told, RIVAL};
+use bench::subject::{DiagonalCall, PlanCall, Planned, Returned, Subject, Told, RIVAL};
 use bench::timing::{contest, contest_of_commands, least_seconds, print_head, print_line, Contest};
 
 struct Request {
@@ -48,6 +48,7 @@ fn main() -> ExitCode {
     print_head(PROVED.name, RIVAL.name);
     plans(repeats);
     weights_zero(repeats);
+    thicknesses(repeats);
     planning_otherwise(repeats);
     longest_jobs();
     diagonals(repeats);
@@ -63,7 +64,7 @@ fn main() -> ExitCode {
 
 /// Plans a job and sums up the answer.
 fn plan(plan: PlanCall, job: &Job) -> u64 {
-    match black_box(plan)(job.p, job.d, &job.extents, &job.weights) {
+    match black_box(plan)(job.p, job.d, &job.extents, &job.weights, &job.least) {
         Ok(list) => list.iter().map(|&n| u64::from(n)).sum(),
         Err((number, place)) => u64::from(number * 8 + place),
     }
@@ -71,17 +72,13 @@ fn plan(plan: PlanCall, job: &Job) -> u64 {
 
 /// Both sides must plan every job alike.
 fn compare_plans(jobs: &[Job], rival: PlanCall) {
-    for Job {
-        p,
-        d,
-        extents,
-        weights,
-    } in jobs
-    {
-        let ours = (PROVED.plan)(*p, *d, extents, weights);
-        let theirs = rival(*p, *d, extents, weights);
-        assert!(ours == theirs, "{p} {d} {extents:?} {weights:?}");
+    for job in jobs {
+        assert!(planned(PROVED.plan, job) == planned(rival, job), "{job:?}");
     }
+}
+
+fn planned(plan: PlanCall, job: &Job) -> Planned {
+    plan(job.p, job.d, &job.extents, &job.weights, &job.least)
 }
 
 /// The same jobs planned by both sides, whose plans are compared first.
@@ -169,6 +166,39 @@ fn weights_zero(repeats: usize) {
     print_line(&worst);
 }
 
+/// Jobs with thicknesses beside the same jobs without, on grids in which the same cuts fit: the mean over every p. Both
+/// columns are the proved call's; its plans with thicknesses are compared with the rival's first, and with those without
+/// but for the extents and the thicknesses. For d = 3 the rival plans the jobs with thicknesses too.
+fn thicknesses(repeats: usize) {
+    for d in 2..=5 {
+        let (thin, thick) = jobs::thin_and_thick(1, d);
+        compare_plans(&thick, RIVAL.plan);
+        for (thin, thick) in thin.iter().zip(&thick) {
+            let others = |job| planned(PROVED.plan, job).map(|list| list[WEIGHTS..LEAST].to_vec());
+            assert!(others(thin) == others(thick), "{thick:?}");
+        }
+        let all = |jobs: &[Job]| {
+            for job in jobs {
+                black_box(plan(PROVED.plan, job));
+            }
+            0
+        };
+        print_line(&contest(
+            &format!("planning, d = {d}, with thicknesses beside none"),
+            Some(1.1),
+            thick.len(),
+            repeats,
+            || all(&thick),
+            || all(&thin),
+        ));
+        if d == 3 {
+            let what = "planning, d = 3, with thicknesses";
+            let target = Some(1.4);
+            print_line(&contest_of_plans(what, target, repeats, &thick, RIVAL.plan));
+        }
+    }
+}
+
 /// The mix of every p and d beside quicker ways to plan.
 fn planning_otherwise(repeats: usize) {
     let mix = jobs::mix(1);
@@ -241,7 +271,7 @@ fn compare<Side>(
 }
 
 fn lay(call: DiagonalCall, job: &Job, list: &mut [u32]) -> Returned {
-    black_box(call)(job.p, job.d, &job.extents, &job.weights, list)
+    black_box(call)(job.p, job.d, &job.extents, &job.weights, &job.least, list)
 }
 
 /// Diagonal plans on the grids that they just fit, after a comparison of many others and of refusals.

@@ -191,7 +191,8 @@ pub fn step(plan: &[u32], position: &[u32], dimension: u32, up: bool, answer: &m
 #[cfg(test)]
 mod tests {
     use super::*;
-    use crate::plan_list::list_of;
+    use crate::jobs::thicken_plan;
+    use crate::plan_list::{list_of, LEAST};
     use oracle::plan::{plan_job, Plan};
     use oracle::random::Random;
     use oracle::refusal::Refusal;
@@ -202,7 +203,10 @@ mod tests {
         let p = random.between(1, 60) as u32;
         let extents: Vec<u32> = (0..d).map(|_| random.between(60, 200) as u32).collect();
         let weights: Vec<u32> = (0..d).map(|_| random.between(0, 9) as u32).collect();
-        let mut plan = plan_job(p, d as u32, &extents, &weights).unwrap();
+        let mut plan = plan_job(p, d as u32, &extents, &weights, &[]).unwrap();
+        if random.once_in(2) {
+            thicken_plan(random, &mut plan);
+        }
         if random.once_in(10) {
             plan.p += 1;
         }
@@ -290,8 +294,9 @@ mod tests {
 
     #[test]
     fn lists_of_another_length() {
-        let list = list_of(&plan_job(4, 3, &[8; 3], &[1; 3]).unwrap());
+        let list = list_of(&plan_job(4, 3, &[8; 3], &[1; 3], &[]).unwrap());
         assert_eq!(owner(&list[1..], &[0, 0, 0], &mut [0]), Err(6));
+        assert_eq!(owner(&list[..LEAST], &[0, 0, 0], &mut [0]), Err(6));
         assert_eq!(owner(&list, &[0, 0, 0], &mut [0; 2]), Err(9));
         assert_eq!(neighbour(&list, 4, 1, true, &mut [0]), Err(8));
         assert_eq!(neighbour(&list, 3, 1, true, &mut [0]), Err(9));

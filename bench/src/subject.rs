@@ -13,8 +13,8 @@ pub type Planned = Result<PlanList, (u32, u32)>;
 /// upper 32 bits. The shortest calls return it on both sides: to make a [`Told`] of it would add to the time of one.
 pub type Returned = u64;
 
-pub type PlanCall = fn(u32, u32, &[u32], &[u32]) -> Planned;
-pub type DiagonalCall = fn(u32, u32, &[u32], &[u32], &mut [u32]) -> Returned;
+pub type PlanCall = fn(u32, u32, &[u32], &[u32], &[u32]) -> Planned;
+pub type DiagonalCall = fn(u32, u32, &[u32], &[u32], &[u32], &mut [u32]) -> Returned;
 pub type StepCall = fn(&[u32], &[u32], u32, bool, &mut [u32]) -> Told;
 pub type TimetableCall = fn(&[u32], u32, bool, u32, u32, &mut [u32]) -> Told;
 

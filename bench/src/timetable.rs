@@ -245,6 +245,7 @@ fn next_row(plan: &PlanList, left: &[bool; 5], position: &mut [u32; 5]) -> bool 
 #[cfg(test)]
 mod tests {
     use super::*;
+    use crate::jobs::thicken_plan;
     use crate::plan_list::list_of;
     use oracle::plan::{plan_job, Plan};
     use oracle::random::Random;
@@ -252,14 +253,14 @@ mod tests {
     use oracle::timetable::{visit, Message};
 
     /// A plan of a few hundred tiles at most, often changed by hand but always in shape, or with one processor
-    /// too many.
+    /// too many or a thickness that does not fit.
     fn any_plan(random: &mut Random) -> Plan {
         let d = random.between(2, 5) as usize;
         let p = random.between(1, [30, 30, 12, 6][d - 2]) as u32;
         let most = if random.once_in(8) { 2000 } else { 60 };
         let extents: Vec<u32> = (0..d).map(|_| random.between(30, most) as u32).collect();
         let weights: Vec<u32> = (0..d).map(|_| random.between(0, 9) as u32).collect();
-        let mut plan = plan_job(p, d as u32, &extents, &weights).unwrap();
+        let mut plan = plan_job(p, d as u32, &extents, &weights, &[]).unwrap();
         if random.once_in(4) {
             let most = [20, 8, 5, 3][d - 2];
             plan.cuts[..d].fill_with(|| random.between(1, most) as u32);
@@ -275,6 +276,9 @@ mod tests {
                 }
                 plan.matrix[i][k] %= plan.moduli[i];
             }
+        }
+        if random.once_in(2) {
+            thicken_plan(random, &mut plan);
         }
         if random.once_in(20) {
             plan.p += 1;
@@ -330,7 +334,7 @@ mod tests {
 
     #[test]
     fn lists_of_another_length() {
-        let list = list_of(&plan_job(4, 3, &[8; 3], &[1; 3]).unwrap());
+        let list = list_of(&plan_job(4, 3, &[8; 3], &[1; 3], &[]).unwrap());
         let mut answer = [7; PLACES + 1];
         for length in [0, 1, PLACES - 1, PLACES + 1] {
             let lent = &mut answer[..length];
@@ -345,7 +349,7 @@ mod tests {
     #[test]
     fn the_largest_product() {
         let first = |extents: [u32; 3]| {
-            let list = list_of(&plan_job(2, 3, &extents, &[1; 3]).unwrap());
+            let list = list_of(&plan_job(2, 3, &extents, &[1; 3], &[]).unwrap());
             let mut answer = [0; PLACES];
             timetable(&list, 3, true, 0, 0, &mut answer).map(|()| answer)
         };

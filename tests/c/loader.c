@@ -88,13 +88,13 @@ static void load(const uint32_t *plan)
     munmap(nexts, pages * page);
 }
 
-typedef uint64_t planner(uint32_t, uint32_t, const uint32_t *, size_t, const uint32_t *, size_t, uint32_t *, size_t);
+typedef uint64_t planner(uint32_t, uint32_t, const uint32_t *, size_t, const uint32_t *, size_t, const uint32_t *, size_t, uint32_t *, size_t);
 
 static void walk(planner *make, uint32_t processors, uint32_t d)
 {
-    const uint32_t extents[MOST] = {4096, 4096, 4096, 4096, 4096}, weights[MOST] = {1, 1, 1, 1, 1};
+    const uint32_t extents[MOST] = {4096, 4096, 4096, 4096, 4096}, weights[MOST] = {1, 1, 1, 1, 1}, least[MOST] = {4, 3, 2, 1, 4};
     uint32_t plan[N];
-    if (make(processors, d, extents, d, weights, d, plan, N) != MULTIPARTITION_ANSWERED)
+    if (make(processors, d, extents, d, weights, d, least, d, plan, N) != MULTIPARTITION_ANSWERED)
         fail("no plan");
     p = processors;
     tiles = 1;

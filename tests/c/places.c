@@ -8,7 +8,7 @@
 #include "multipartition.h"
 
 /* Each call once more: a header that declares another type for one does not compile. */
-typedef uint64_t planning(uint32_t, uint32_t, const uint32_t *, size_t, const uint32_t *, size_t, uint32_t *, size_t);
+typedef uint64_t planning(uint32_t, uint32_t, const uint32_t *, size_t, const uint32_t *, size_t, const uint32_t *, size_t, uint32_t *, size_t);
 planning multipartition_plan, multipartition_diagonal;
 uint64_t multipartition_owner(const uint32_t *, size_t, const uint32_t *, size_t, uint32_t *, size_t);
 uint64_t multipartition_hypercube_owner(uint32_t, const uint32_t *, size_t, uint32_t *, size_t);
@@ -26,6 +26,9 @@ static uint32_t multipartition_place_of(uint64_t);
 enum { D = 5, ROOM = 99, SPARE = 4000000 };
 
 #define EXPECT(found, figure) expect(#found, found, figure)
+
+/* What an empty list points to: it is not read, or a job would be refused for a thickness of 0. */
+static const uint32_t nothing[1] = {0};
 
 static int failures = 0;
 
@@ -53,21 +56,23 @@ static void expect_five(const char *what, const uint32_t *found, const uint32_t 
 
 /* A job and its plan. */
 struct figures {
-    uint32_t p, d, extents[D], weights[D], cuts[D], cost_low, cost_high, moduli[D], matrix[D][D], kind;
+    uint32_t p, d, extents[D], weights[D], cuts[D], cost_low, cost_high, moduli[D], matrix[D][D], kind, least[D];
 };
 
 static const struct figures planned = {
     3360, D, {101, 67, 41, 999983, 211}, {3569424485, 1132923280, 2664946055, 1861655, 1862693460}, {4, 14, 6, 420, 10}, 470706107, 13,
-    {1, 2, 2, 84, 10}, {{0, 0, 0, 0, 0}, {1, 1, 0, 0, 0}, {0, 1, 1, 0, 0}, {83, 12, 70, 1, 0}, {1, 8, 3, 9, 1}}, 0};
+    {1, 2, 2, 84, 10}, {{0, 0, 0, 0, 0}, {1, 1, 0, 0, 0}, {0, 1, 1, 0, 0}, {83, 12, 70, 1, 0}, {1, 8, 3, 9, 1}}, 0,
+    {25, 3, 2, 2380, 21}};
 static const struct figures diagonal_of_three = {
-    1369, 3, {101, 67, 41}, {3569424485, 1132923280, 2664946055}, {37, 37, 37}, 3229572464, 61, {1, 37, 37}, {{0}, {1, 0, 36}, {0, 1, 36}}, 1};
+    1369, 3, {101, 67, 41}, {3569424485, 1132923280, 2664946055}, {37, 37, 37}, 3229572464, 61, {1, 37, 37}, {{0}, {1, 0, 36}, {0, 1, 36}}, 1,
+    {2, 1, 1}};
 static const struct figures diagonal_of_two = {
-    4093, 2, {999983, 4211}, {3569424485, 1132923280}, {4093, 4093}, 553568300, 4480, {1, 4093}, {{0}, {1, 4092}}, 1};
+    4093, 2, {999983, 4211}, {3569424485, 1132923280}, {4093, 4093}, 553568300, 4480, {1, 4093}, {{0}, {1, 4092}}, 1, {244, 1}};
 
 static void plan_places(uint32_t plan[ROOM], planning *call, const struct figures *job)
 {
     const uint32_t d = job->d;
-    EXPECT(call(job->p, d, job->extents, d, job->weights, d, ready(plan), MULTIPARTITION_PLAN_LENGTH), MULTIPARTITION_ANSWERED);
+    EXPECT(call(job->p, d, job->extents, d, job->weights, d, job->least, d, ready(plan), MULTIPARTITION_PLAN_LENGTH), MULTIPARTITION_ANSWERED);
     EXPECT(plan[MULTIPARTITION_DIMENSIONS], d);
     EXPECT(plan[MULTIPARTITION_PROCESSORS], job->p);
     expect_five("an extent", plan + MULTIPARTITION_EXTENTS, job->extents);
@@ -79,6 +84,7 @@ static void plan_places(uint32_t plan[ROOM], planning *call, const struct figure
     for (int i = 0; i < D; i++)
         expect_five("a matrix entry", plan + MULTIPARTITION_MATRIX + i * MULTIPARTITION_ROW_LENGTH, job->matrix[i]);
     EXPECT(plan[MULTIPARTITION_KIND], job->kind);
+    expect_five("a least thickness", plan + MULTIPARTITION_LEAST, job->least);
 }
 
 /* The two kinds, and that owners are those of the diagonal formulas: (17 - 4000) modulo 4093; (5 - 11) modulo 37 and (30 - 11) modulo 37. */
@@ -150,6 +156,49 @@ static void thick_slabs_first(const uint32_t *plan)
     }
 }
 
+/* No slab is thinner than the least thickness of its dimension, and in dimension 4 the last ones are just as thick. */
+static void thick_enough(const uint32_t *plan)
+{
+    for (uint32_t k = 0; k < D; k++) {
+        uint32_t thinnest = UINT32_MAX;
+        for (uint32_t slab = 0; slab < planned.cuts[k]; slab++) {
+            uint32_t answer[ROOM];
+            EXPECT(multipartition_slab(plan, MULTIPARTITION_PLAN_LENGTH, k + 1, slab, ready(answer), MULTIPARTITION_SLAB_LENGTH), 0);
+            const uint32_t thickness = answer[MULTIPARTITION_SLAB_AFTER] - answer[MULTIPARTITION_SLAB_FIRST];
+            thinnest = thickness < thinnest ? thickness : thinnest;
+        }
+        EXPECT(thinnest >= plan[MULTIPARTITION_LEAST + k], 1);
+        EXPECT(k != 3 || thinnest == planned.least[3], 1);
+    }
+}
+
+/* Cuts of 4 processors on 8 8 8 with other least thicknesses, and those of document 02: 6 6 is cut 2 2 with thickness 3 both ways. No thicknesses at
+ * all make the same list as ones. */
+static void least_thicknesses(void)
+{
+    const size_t n = MULTIPARTITION_PLAN_LENGTH;
+    const uint32_t eights[3] = {8, 8, 8}, sixes[2] = {6, 6}, ones[3] = {1, 1, 1}, threes[2] = {3, 3};
+    const uint32_t least[4][3] = {{1, 1, 1}, {4, 4, 4}, {1, 1, 5}, {5, 2, 2}}, cuts[4][3] = {{2, 2, 2}, {2, 2, 2}, {4, 4, 1}, {1, 4, 4}};
+    uint32_t plan[ROOM], same[ROOM];
+    for (int i = 0; i < 4; i++) {
+        EXPECT(multipartition_plan(4, 3, eights, 3, ones, 3, least[i], 3, ready(plan), n), 0);
+        for (int k = 0; k < 3; k++) {
+            expect("a cut of three", plan[MULTIPARTITION_CUTS + k], cuts[i][k]);
+            expect("a thickness of three", plan[MULTIPARTITION_LEAST + k], least[i][k]);
+        }
+    }
+    EXPECT(multipartition_plan(2, 2, sixes, 2, ones, 2, threes, 2, ready(plan), n), 0);
+    EXPECT(plan[MULTIPARTITION_CUTS], 2);
+    EXPECT(plan[MULTIPARTITION_CUTS + 1], 2);
+    planning *const calls[2] = {multipartition_plan, multipartition_diagonal};
+    for (int i = 0; i < 2; i++) {
+        EXPECT(calls[i](4, 3, eights, 3, ones, 3, ones, 3, ready(plan), n), 0);
+        EXPECT(calls[i](4, 3, eights, 3, ones, 3, nothing, 0, ready(same), n), 0);
+        for (int at = 0; at < ROOM; at++)
+            expect("a place of the same list", same[at], plan[at]);
+    }
+}
+
 static void step_places(const uint32_t *plan)
 {
     const size_t n = MULTIPARTITION_PLAN_LENGTH;
@@ -192,7 +241,7 @@ static void timetable_places(void)
     const uint32_t first[8] = {13, 15, 1, 294, 2082, 0, 0, 0}, up[8] = {9, 15, 1, 330, 2082, 1, 294, 2082};
     const uint32_t down[8] = {4, 15, 1, 294, 2090, 1, 330, 2090}, last[8] = {13, 15, 0, 0, 0, 1, 294, 2082};
     uint32_t plan[ROOM];
-    EXPECT(multipartition_plan(420, 4, four_extents, 4, four_weights, 4, ready(plan), MULTIPARTITION_PLAN_LENGTH), 0);
+    EXPECT(multipartition_plan(420, 4, four_extents, 4, four_weights, 4, nothing, 0, ready(plan), MULTIPARTITION_PLAN_LENGTH), 0);
     visit_places(plan, 0, 0, first);
     visit_places(plan, 1, 9, up);
     visit_places(plan, 0, 9, down);
@@ -205,7 +254,7 @@ static void largest_length(void)
     const size_t n = MULTIPARTITION_PLAN_LENGTH;
     const uint32_t three_extents[3] = {65535, 65537, 2};
     uint32_t plan[ROOM], answer[ROOM];
-    EXPECT(multipartition_plan(1, 3, three_extents, 3, planned.weights, 3, ready(plan), n), 0);
+    EXPECT(multipartition_plan(1, 3, three_extents, 3, planned.weights, 3, nothing, 0, ready(plan), n), 0);
     plan[MULTIPARTITION_CUTS + 2] = 2;
     EXPECT(multipartition_timetable(plan, n, 3, 1, 0, 0, ready(answer), MULTIPARTITION_TIMETABLE_LENGTH), 0);
     EXPECT(answer[MULTIPARTITION_TIMETABLE_SEND_LENGTH], UINT32_MAX);
@@ -227,6 +276,7 @@ static void plan_by_hand(void)
         plan[MULTIPARTITION_EXTENTS + i] = planned.extents[i];
         plan[MULTIPARTITION_CUTS + i] = planned.cuts[i];
         plan[MULTIPARTITION_MODULI + i] = hand_moduli[i];
+        plan[MULTIPARTITION_LEAST + i] = planned.least[i];
         for (int k = 0; k < D; k++)
             plan[MULTIPARTITION_MATRIX + i * MULTIPARTITION_ROW_LENGTH + k] = rows[i][k];
     }
@@ -252,7 +302,7 @@ static void chain_lists(void)
     const uint32_t eights[3] = {8, 8, 8}, ones[3] = {1, 1, 1};
     const uint32_t lowest[4] = {1, 2, 4, 3}, higher[8] = {8, 7, 6, 5, 0, 0, 0, 0};
     uint32_t plan[ROOM], heads[ROOM], nexts[ROOM];
-    EXPECT(multipartition_plan(4, 3, eights, 3, ones, 3, ready(plan), n), 0);
+    EXPECT(multipartition_plan(4, 3, eights, 3, ones, 3, ones, 3, ready(plan), n), 0);
     EXPECT(multipartition_chains(plan, n, ready(heads), 4, ready(nexts), 8), 0);
     for (int q = 0; q < 4; q++)
         expect("a lowest tile", heads[q], lowest[q]);
@@ -269,21 +319,25 @@ static void step_lengths(void)
     uint32_t plan[ROOM], answer[ROOM];
     EXPECT(MULTIPARTITION_STEP_LENGTH(ones[0] ? d : 0), 6);
     EXPECT(2 * MULTIPARTITION_STEP_LENGTH(d), 12);
-    EXPECT(multipartition_plan(4, 3, eights, 3, ones, 3, ready(plan), n), 0);
+    EXPECT(multipartition_plan(4, 3, eights, 3, ones, 3, ones, 3, ready(plan), n), 0);
     EXPECT(multipartition_step(plan, n, position, 3, 3, 1, ready(answer), MULTIPARTITION_STEP_LENGTH(3)), 0);
     EXPECT(answer[MULTIPARTITION_STEP_INSIDE], 1);
     for (int k = 0; k < 3; k++)
         expect("a coordinate of three", answer[MULTIPARTITION_STEP_POSITION + k], up[k]);
 }
 
-/* The highest place that a refusal has. */
+/* The highest place that a refusal has: the last extent or the last thickness is 0. */
 static void refusal_place(void)
 {
-    const uint32_t last_bad[D] = {8, 8, 8, 8, 0};
+    const size_t n = MULTIPARTITION_PLAN_LENGTH;
+    const uint32_t eights[D] = {8, 8, 8, 8, 8}, last_bad[D] = {8, 8, 8, 8, 0};
     uint32_t plan[ROOM];
-    const uint64_t returned = multipartition_plan(4, D, last_bad, D, planned.weights, D, ready(plan), MULTIPARTITION_PLAN_LENGTH);
-    EXPECT(multipartition_number_of(returned), MULTIPARTITION_BAD_EXTENT);
-    EXPECT(multipartition_place_of(returned), 5);
+    const uint64_t extent = multipartition_plan(4, D, last_bad, D, planned.weights, D, nothing, 0, ready(plan), n);
+    const uint64_t thickness = multipartition_plan(4, D, eights, D, planned.weights, D, last_bad, D, ready(plan), n);
+    EXPECT(multipartition_number_of(extent), MULTIPARTITION_BAD_EXTENT);
+    EXPECT(multipartition_place_of(extent), 5);
+    EXPECT(multipartition_number_of(thickness), MULTIPARTITION_BAD_THICKNESS);
+    EXPECT(multipartition_place_of(thickness), 5);
 }
 
 int main(void)
@@ -292,6 +346,8 @@ int main(void)
     plan_places(plan, multipartition_plan, &planned);
     answer_places(plan);
     thick_slabs_first(plan);
+    thick_enough(plan);
+    least_thicknesses();
     step_places(plan);
     step_lengths();
     timetable_places();

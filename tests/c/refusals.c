@@ -51,20 +51,44 @@ static void expect_kept(const char *what, uint32_t *list, size_t length)
 
 /* ---- jobs */
 
-typedef uint64_t planning(uint32_t, uint32_t, const uint32_t *, size_t, const uint32_t *, size_t, uint32_t *, size_t);
+typedef uint64_t planning(uint32_t, uint32_t, const uint32_t *, size_t, const uint32_t *, size_t, const uint32_t *, size_t, uint32_t *, size_t);
 
-static void job(planning *call, const char *what, uint32_t p, uint32_t d, size_t extents_length, uint32_t extent, uint32_t last_extent,
-                size_t weights_length, size_t plan_length, enum multipartition_number number, uint32_t place)
+/* A list of equal numbers but the last. */
+struct list {
+    size_t length;
+    uint32_t number, last;
+};
+
+static uint32_t *made(struct list list)
 {
-    uint32_t *extents = filled(extents_length, extent);
+    uint32_t *numbers = filled(list.length, list.number);
+    if (list.length)
+        numbers[list.length - 1] = list.last;
+    return numbers;
+}
+
+static void thick_job(planning *call, const char *what, uint32_t p, uint32_t d, struct list extent, size_t weights_length, struct list thickness,
+                      size_t plan_length, enum multipartition_number number, uint32_t place)
+{
+    uint32_t *extents = made(extent);
     uint32_t *weights = filled(weights_length, 1);
+    uint32_t *least = made(thickness);
     uint32_t *plan = filled(plan_length, KEPT);
-    if (extents_length)
-        extents[extents_length - 1] = last_extent;
-    expect(what, call(p, d, extents, extents_length, weights, weights_length, plan, plan_length), number, place);
+    expect(what, call(p, d, extents, extent.length, weights, weights_length, least, thickness.length, plan, plan_length), number, place);
     expect_kept(what, plan, plan_length);
     free(extents);
     free(weights);
+    free(least);
+}
+
+/* The same without least thicknesses, and with d ones if d is in range. */
+static void job(planning *call, const char *what, uint32_t p, uint32_t d, size_t extents_length, uint32_t extent, uint32_t last_extent,
+                size_t weights_length, size_t plan_length, enum multipartition_number number, uint32_t place)
+{
+    const struct list extents = {extents_length, extent, last_extent}, none = {0, 0, 0}, ones = {d, 1, 1};
+    thick_job(call, what, p, d, extents, weights_length, none, plan_length, number, place);
+    if (2 <= d && d <= 5)
+        thick_job(call, what, p, d, extents, weights_length, ones, plan_length, number, place);
 }
 
 /* Refusals that the planner and the diagonal layout have in common. */
@@ -86,6 +110,42 @@ static void jobs(planning *call)
     job(call, "plan list too long", 4, 3, 3, 8, 8, 3, n + 1, MULTIPARTITION_BAD_ANSWER_LENGTH, 0);
 }
 
+/* What least thicknesses are refused for, each where all later refusals apply too, and each without them. The products of cut and thickness that are
+ * too large for 32 bits would be 0, 4096 and 8 there. */
+static void thicknesses(planning *call)
+{
+    const size_t n = MULTIPARTITION_PLAN_LENGTH;
+    const struct list eights = {3, 8, 8}, ones = {3, 1, 1}, bad_last = {3, 8, 0}, zeros = {3, 0, 0}, zero_last = {3, 1, 0}, zero_first = {3, 0, 1};
+    const struct list few = {2, 0, 0}, one = {1, 1, 1}, many = {4, 0, 0}, few_ones = {2, 1, 1}, many_ones = {4, 1, 1};
+    const struct list pair = {2, 8, 8}, six_five = {2, 6, 5}, sixes = {2, 6, 6}, threes = {2, 3, 3}, zero_second = {2, UINT32_MAX, 0};
+    const struct list wide = {2, 4096, 4096}, long_and_thin = {2, 1000000, 1};
+    thick_job(call, "d before the thicknesses", 4, 6, zeros, 3, few, 0, MULTIPARTITION_BAD_DIMENSIONS, 0);
+    thick_job(call, "d before the thicknesses", 4, 1, one, 1, few, 0, MULTIPARTITION_BAD_DIMENSIONS, 0);
+    thick_job(call, "processors before the thicknesses", 0, 3, zeros, 3, few, 0, MULTIPARTITION_BAD_PROCESSORS, 0);
+    thick_job(call, "too few thicknesses", 4, 3, zeros, 3, few, 0, MULTIPARTITION_BAD_JOB_LENGTH, 0);
+    thick_job(call, "too few thicknesses", 4, 3, eights, 3, few_ones, n, MULTIPARTITION_BAD_JOB_LENGTH, 0);
+    thick_job(call, "one thickness", 4, 2, pair, 2, one, n, MULTIPARTITION_BAD_JOB_LENGTH, 0);
+    thick_job(call, "too many thicknesses", 4, 3, zeros, 3, many, 0, MULTIPARTITION_BAD_JOB_LENGTH, 0);
+    thick_job(call, "too many thicknesses", 4, 3, eights, 3, many_ones, n, MULTIPARTITION_BAD_JOB_LENGTH, 0);
+    thick_job(call, "too many thicknesses", 4, 2, pair, 2, ones, n, MULTIPARTITION_BAD_JOB_LENGTH, 0);
+    thick_job(call, "extents with their thicknesses", 4, 3, pair, 3, few_ones, n, MULTIPARTITION_BAD_JOB_LENGTH, 0);
+    thick_job(call, "extent before thickness", 4, 3, bad_last, 3, zeros, 0, MULTIPARTITION_BAD_EXTENT, 3);
+    thick_job(call, "thickness 0", 4, 3, ones, 3, zeros, 0, MULTIPARTITION_BAD_THICKNESS, 1);
+    thick_job(call, "first thickness 0", 4, 3, eights, 3, zero_first, n, MULTIPARTITION_BAD_THICKNESS, 1);
+    thick_job(call, "last thickness 0", 4, 3, ones, 3, zero_last, 0, MULTIPARTITION_BAD_THICKNESS, 3);
+    thick_job(call, "last thickness 0", 4, 3, eights, 3, zero_last, n, MULTIPARTITION_BAD_THICKNESS, 3);
+    thick_job(call, "thickness 0 before cuts", 4, 2, pair, 2, zero_second, 0, MULTIPARTITION_BAD_THICKNESS, 2);
+    thick_job(call, "too thick", 2, 2, six_five, 2, threes, n, MULTIPARTITION_NO_CUTS, 0);
+    thick_job(call, "too thick before the length", 2, 2, six_five, 2, threes, 0, MULTIPARTITION_NO_CUTS, 0);
+    thick_job(call, "too thick for one cut", 1, 2, pair, 2, (struct list){2, 1, 9}, n, MULTIPARTITION_NO_CUTS, 0);
+    thick_job(call, "too thick for one cut", 1, 3, eights, 3, (struct list){3, UINT32_MAX, 1}, n, MULTIPARTITION_NO_CUTS, 0);
+    thick_job(call, "a product of 33 bits", 4096, 2, wide, 2, (struct list){2, 1, 1048576}, n, MULTIPARTITION_NO_CUTS, 0);
+    thick_job(call, "a product of 33 bits", 4096, 2, wide, 2, (struct list){2, 1048577, 1}, n, MULTIPARTITION_NO_CUTS, 0);
+    thick_job(call, "a product of 33 bits", 8, 2, pair, 2, (struct list){2, 536870913, 536870913}, n, MULTIPARTITION_NO_CUTS, 0);
+    thick_job(call, "just thick enough", 2, 2, sixes, 2, threes, n - 1, MULTIPARTITION_BAD_ANSWER_LENGTH, 0);
+    thick_job(call, "as thick as the grid", 1, 2, long_and_thin, 2, long_and_thin, 0, MULTIPARTITION_BAD_ANSWER_LENGTH, 0);
+}
+
 /* A job of the diagonal layout. */
 static void diagonal(const char *what, uint32_t p, uint32_t d, size_t extents_length, uint32_t extent, uint32_t last_extent, size_t plan_length,
                      enum multipartition_number number)
@@ -97,7 +157,8 @@ static void diagonal(const char *what, uint32_t p, uint32_t d, size_t extents_le
 static void diagonals(void)
 {
     const size_t n = MULTIPARTITION_PLAN_LENGTH;
-    const uint32_t extents[3] = {16, 16, 3}, weights[3] = {1, 1, 1};
+    const uint32_t extents[3] = {16, 16, 3}, weights[3] = {1, 1, 1}, least[3] = {1, 1, 2};
+    const struct list zeros = {3, 0, 0}, few = {2, 0, 0}, eights = {3, 8, 8}, fives = {3, 1, 5};
     uint32_t plan[MULTIPARTITION_PLAN_LENGTH];
     diagonal("d too large before suited", 5, 6, 0, 0, 0, 0, MULTIPARTITION_BAD_DIMENSIONS);
     diagonal("no processor before suited", 0, 4, 0, 0, 0, 0, MULTIPARTITION_BAD_PROCESSORS);
@@ -111,8 +172,12 @@ static void diagonals(void)
     diagonal("a cut above its extent", 4096, 3, 3, 64, 63, n, MULTIPARTITION_NO_CUTS);
     diagonal("a cut above its extent", 4093, 2, 2, 4092, 4093, 0, MULTIPARTITION_NO_CUTS);
     diagonal("a cut above its extent", 16, 3, 3, 16, 3, n, MULTIPARTITION_NO_CUTS);
-    expect("cuts of the planner", multipartition_plan(16, 3, extents, 3, weights, 3, plan, n), MULTIPARTITION_ANSWERED, 0);
-    expect("just the cuts", multipartition_diagonal(9, 3, extents, 3, weights, 3, plan, n), MULTIPARTITION_ANSWERED, 0);
+    thick_job(multipartition_diagonal, "no square before the thicknesses", 6, 3, zeros, 3, few, 0, MULTIPARTITION_UNSUITED, 0);
+    thick_job(multipartition_diagonal, "four dimensions before thickness 0", 4, 4, eights, 4, zeros, n, MULTIPARTITION_UNSUITED, 0);
+    thick_job(multipartition_diagonal, "too thick for the layout", 4, 3, eights, 3, fives, n, MULTIPARTITION_NO_CUTS, 0);
+    expect("cuts of the planner", multipartition_plan(16, 3, extents, 3, weights, 3, least, 3, plan, n), MULTIPARTITION_ANSWERED, 0);
+    expect("just the cuts", multipartition_diagonal(9, 3, extents, 3, weights, 3, weights, 3, plan, n), MULTIPARTITION_ANSWERED, 0);
+    expect("just too thick", multipartition_diagonal(9, 3, extents, 3, weights, 3, least, 3, plan, n), MULTIPARTITION_NO_CUTS, 0);
 }
 
 /* ---- the hypercube layout */
@@ -205,14 +270,20 @@ static void visits(void)
     const size_t n = MULTIPARTITION_PLAN_LENGTH, a = MULTIPARTITION_TIMETABLE_LENGTH;
     const uint32_t large[3] = {65536, 65536, 65536}, small[3] = {65535, 65537, 2}, weights[3] = {1, 1, 1};
     uint32_t plan[MULTIPARTITION_PLAN_LENGTH], answer[MULTIPARTITION_TIMETABLE_LENGTH];
-    expect("a large job", multipartition_plan(2, 3, large, 3, weights, 3, plan, n), MULTIPARTITION_ANSWERED, 0);
+    expect("a large job", multipartition_plan(2, 3, large, 3, weights, 3, weights, 3, plan, n), MULTIPARTITION_ANSWERED, 0);
     visit("sweep by a plan list without a kind", plan, 49, 0, 2, 2, 0, MULTIPARTITION_BAD_PLAN);
+    visit("sweep by a plan list without thicknesses", plan, 50, 0, 2, 2, 0, MULTIPARTITION_BAD_PLAN);
     plan[MULTIPARTITION_KIND] = 2;
     visit("sweep by a plan of another kind", plan, n, 0, 2, 2, 0, MULTIPARTITION_BAD_PLAN);
     plan[MULTIPARTITION_KIND] = MULTIPARTITION_KIND_PLANNED;
     plan[MULTIPARTITION_MODULI] = 0;
     visit("sweep by a plan out of shape", plan, n, 0, 2, 2, 0, MULTIPARTITION_BAD_PLAN);
     plan[MULTIPARTITION_MODULI] = 1;
+    plan[MULTIPARTITION_LEAST] = 65537;
+    visit("sweep by a plan too thin", plan, n, 0, 2, 2, 0, MULTIPARTITION_BAD_PLAN);
+    plan[MULTIPARTITION_LEAST] = 0;
+    visit("sweep by a plan of thickness 0", plan, n, 0, 2, 2, 0, MULTIPARTITION_BAD_PLAN);
+    plan[MULTIPARTITION_LEAST] = 1;
     visit("sweep along dimension 0", plan, n, 0, 2, 2, 0, MULTIPARTITION_BAD_DIMENSION);
     visit("sweep along dimension 4", plan, n, 4, 2, 2, 0, MULTIPARTITION_BAD_DIMENSION);
     for (uint32_t k = 1; k <= 3; k++) {
@@ -220,7 +291,7 @@ static void visits(void)
         visit("other extents too large", plan, n, k, 0, 0, a, MULTIPARTITION_OTHER_EXTENTS);
     }
 
-    expect("a smaller job", multipartition_plan(2, 3, small, 3, weights, 3, plan, n), MULTIPARTITION_ANSWERED, 0);
+    expect("a smaller job", multipartition_plan(2, 3, small, 3, weights, 3, weights, 0, plan, n), MULTIPARTITION_ANSWERED, 0);
     visit("sweep beyond the last step", plan, n, 3, 2, 0, 0, MULTIPARTITION_OUT_OF_RANGE);
     visit("sweep beyond the last step", plan, n, 3, UINT32_MAX, 1, a, MULTIPARTITION_OUT_OF_RANGE);
     visit("sweep of processor 2", plan, n, 3, 0, 2, 0, MULTIPARTITION_OUT_OF_RANGE);
@@ -261,19 +332,25 @@ int main(void)
     const size_t n = MULTIPARTITION_PLAN_LENGTH;
     const uint32_t extents[3] = {8, 8, 8};
     const uint32_t weights[3] = {1, 1, 1};
+    const uint32_t least[3] = {4, 1, 2};
     uint32_t plan[MULTIPARTITION_PLAN_LENGTH], diagonal_plan[MULTIPARTITION_PLAN_LENGTH];
     jobs(multipartition_plan);
     jobs(multipartition_diagonal);
+    thicknesses(multipartition_plan);
+    thicknesses(multipartition_diagonal);
     diagonals();
     hypercubes();
     visits();
-    expect("a job", multipartition_plan(4, 3, extents, 3, weights, 3, plan, n), MULTIPARTITION_ANSWERED, 0);
-    expect("a job", multipartition_diagonal(4, 3, extents, 3, weights, 3, diagonal_plan, n), MULTIPARTITION_ANSWERED, 0);
+    expect("a job", multipartition_plan(4, 3, extents, 3, weights, 3, least, 3, plan, n), MULTIPARTITION_ANSWERED, 0);
+    expect("a job", multipartition_diagonal(4, 3, extents, 3, weights, 3, least, 0, diagonal_plan, n), MULTIPARTITION_ANSWERED, 0);
 
     const struct question good = {3, 3, 1, 7, 8, 1, 3, 2};
     questions("plan list empty", plan, 0, good, MULTIPARTITION_BAD_PLAN, MULTIPARTITION_BAD_PLAN);
     questions("plan list without a kind", plan, 49, good, MULTIPARTITION_BAD_PLAN, MULTIPARTITION_BAD_PLAN);
     questions("diagonal plan list without a kind", diagonal_plan, 49, good, MULTIPARTITION_BAD_PLAN, MULTIPARTITION_BAD_PLAN);
+    questions("plan list without thicknesses", plan, 50, good, MULTIPARTITION_BAD_PLAN, MULTIPARTITION_BAD_PLAN);
+    questions("diagonal plan list without thicknesses", diagonal_plan, 50, good, MULTIPARTITION_BAD_PLAN, MULTIPARTITION_BAD_PLAN);
+    questions("plan list too short", plan, n - 1, good, MULTIPARTITION_BAD_PLAN, MULTIPARTITION_BAD_PLAN);
     questions("plan list too long", plan, n + 1, good, MULTIPARTITION_BAD_PLAN, MULTIPARTITION_BAD_PLAN);
     out_of_shape(plan, MULTIPARTITION_DIMENSIONS, 6);
     out_of_shape(plan, MULTIPARTITION_PROCESSORS, 0);
@@ -286,6 +363,17 @@ int main(void)
     out_of_shape(plan, MULTIPARTITION_KIND, UINT32_MAX);
     out_of_shape(diagonal_plan, MULTIPARTITION_KIND, 2);
     out_of_shape(diagonal_plan, MULTIPARTITION_MODULI + 1, 1);
+    for (size_t k = 0; k < 3; k++) {
+        out_of_shape(plan, MULTIPARTITION_LEAST + k, 0);
+        out_of_shape(plan, MULTIPARTITION_LEAST + k, 5);
+        out_of_shape(plan, MULTIPARTITION_LEAST + k, 2147483648);
+        out_of_shape(plan, MULTIPARTITION_LEAST + k, 2147483649);
+        out_of_shape(plan, MULTIPARTITION_LEAST + k, UINT32_MAX);
+        out_of_shape(diagonal_plan, MULTIPARTITION_LEAST + k, 0);
+        out_of_shape(diagonal_plan, MULTIPARTITION_LEAST + k, 5);
+    }
+    out_of_shape(plan, MULTIPARTITION_EXTENTS, 7);
+    out_of_shape(plan, MULTIPARTITION_CUTS, 3);
 
     const struct question no_dimension = {4, 0, 2, 8, 0, 2, 3, 0};
     const struct question high_dimension = {4, 4, 2, 8, 9, 1, 2, 0};
@@ -300,7 +388,16 @@ int main(void)
     questions("no answer list", plan, n, no_answer_list, MULTIPARTITION_BAD_ANSWER_LENGTH, MULTIPARTITION_BAD_ANSWER_LENGTH);
     questions("answer list too long", plan, n, long_answer_list, MULTIPARTITION_BAD_ANSWER_LENGTH, MULTIPARTITION_BAD_ANSWER_LENGTH);
 
+    /* In shape with any thickness that fits, and whatever stands past the dimensions. */
+    for (uint32_t thickness = 1; thickness <= 4; thickness++) {
+        plan[MULTIPARTITION_LEAST] = thickness;
+        plan[MULTIPARTITION_LEAST + 3] = UINT32_MAX * (thickness % 2);
+        questions("thick enough", plan, n, no_answer_list, MULTIPARTITION_BAD_ANSWER_LENGTH, MULTIPARTITION_BAD_ANSWER_LENGTH);
+        chain_lists("thick enough", plan, n, 4, 0, MULTIPARTITION_BAD_ANSWER_LENGTH);
+    }
+
     chain_lists("plan list without a kind", plan, 49, 4, 8, MULTIPARTITION_BAD_PLAN);
+    chain_lists("plan list without thicknesses", plan, 50, 4, 8, MULTIPARTITION_BAD_PLAN);
     chain_lists("too few heads", plan, n, 3, 8, MULTIPARTITION_BAD_ANSWER_LENGTH);
     chain_lists("too many nexts", plan, n, 4, 9, MULTIPARTITION_BAD_ANSWER_LENGTH);
 

@@ -30,33 +30,37 @@ static void check(uint64_t returned)
 
 static const uint32_t extents[MOST] = {1000000, 1000000, 1000000, 1000000, 1000000};
 static const uint32_t weights[][MOST] = {{1, 1, 1, 1, 1}, {0, 0, 1, 30809, 1559}, {10000, 1000, 100, 10, 1}};
+static const uint32_t least[MOST] = {244, 1, 3, 2, 244}; /* 4096 cuts fit in every dimension */
 
-/* Every processor count with every number of dimensions. */
+/* Every processor count with every number of dimensions, without least thicknesses and with them. */
 static void plan_all(void)
 {
     for (uint32_t p = 1; p <= 4096; p++)
         for (uint32_t d = 2; d <= MOST; d++)
-            for (size_t w = 0; w < sizeof weights / sizeof *weights; w++)
-                check(multipartition_plan(p, d, extents, d, weights[w], d, plan, N));
+            for (size_t w = 0; w < sizeof weights / sizeof *weights; w++) {
+                check(multipartition_plan(p, d, extents, d, weights[w], d, least, 0, plan, N));
+                check(multipartition_plan(p, d, extents, d, weights[w], d, least, d, plan, N));
+            }
 }
 
-/* Every processor count with two dimensions, and every square with three. */
+/* Every processor count with two dimensions, and every square with three, likewise. */
 static void plan_all_diagonally(void)
 {
-    for (size_t w = 0; w < sizeof weights / sizeof *weights; w++) {
-        for (uint32_t p = 1; p <= 4096; p++)
-            check(multipartition_diagonal(p, 2, extents, 2, weights[w], 2, diagonal, N));
-        for (uint32_t s = 1; s <= 64; s++)
-            check(multipartition_diagonal(s * s, 3, extents, 3, weights[w], 3, diagonal, N));
-    }
+    for (size_t w = 0; w < sizeof weights / sizeof *weights; w++)
+        for (uint32_t given = 0; given < 2; given++) {
+            for (uint32_t p = 1; p <= 4096; p++)
+                check(multipartition_diagonal(p, 2, extents, 2, weights[w], 2, least, given * 2, diagonal, N));
+            for (uint32_t s = 1; s <= 64; s++)
+                check(multipartition_diagonal(s * s, 3, extents, 3, weights[w], 3, least, given * 3, diagonal, N));
+        }
 }
 
 /* The questions are about the plan of a count with most divisors; for sweeps, with extents that message lengths allow. */
 static void plan_one(void)
 {
     const uint32_t narrow[MOST] = {255, 255, 255, 255, 255};
-    check(multipartition_plan(3360, MOST, narrow, MOST, weights[0], MOST, swept, N));
-    check(multipartition_plan(3360, MOST, extents, MOST, weights[0], MOST, plan, N));
+    check(multipartition_plan(3360, MOST, narrow, MOST, weights[0], MOST, least, 0, swept, N));
+    check(multipartition_plan(3360, MOST, extents, MOST, weights[0], MOST, least, MOST, plan, N));
     tiles = 1;
     for (int k = 0; k < MOST; k++) {
         tiles *= plan[MULTIPARTITION_CUTS + k];

@@ -77,6 +77,10 @@ swap COST_LOW COST_HIGH
 swap COST_HIGH KIND
 swap MATRIX KIND
 swap KIND PLAN_LENGTH
+swap EXTENTS LEAST
+swap CUTS LEAST
+swap KIND LEAST
+swap LEAST PLAN_LENGTH
 swap KIND_PLANNED KIND_DIAGONAL
 swap HYPERCUBE_OWNER HYPERCUBE_OWNER_LENGTH
 swap NEIGHBOUR_FOUND NEIGHBOUR
@@ -95,6 +99,9 @@ swap UNSUITED OTHER_EXTENTS
 swap UNSUITED OUT_OF_RANGE
 swap BAD_JOB_LENGTH BAD_ANSWER_LENGTH
 swap BAD_EXTENT NO_CUTS
+swap BAD_EXTENT BAD_THICKNESS
+swap BAD_THICKNESS NO_CUTS
+swap BAD_THICKNESS UNSUITED
 swap BAD_DIMENSION OUT_OF_RANGE
 swap OUT_OF_RANGE OTHER_EXTENTS
 wrong 'a step has one place more' 's/\(STEP_LENGTH(dimensions)\) (/\1 (1 + /'
@@ -106,6 +113,8 @@ wrong 'the dimensions of a step without parentheses' 's/STEP_POSITION + (dimensi
 wrong 'a step always has six places' 's/STEP_POSITION + (dimensions)/STEP_POSITION + 0 * (dimensions) + 5/'
 wrong 'answer lengths of 32 bits' 's/size_t answer_length/uint32_t answer_length/'
 wrong 'plan lengths with a sign' 's/size_t plan_length/int plan_length/'
+wrong 'lengths of least thicknesses of 32 bits' 's/size_t least_length/uint32_t least_length/'
+wrong 'no least thicknesses' '/size_t least_length,$/d'
 wrong 'processors of the diagonal layout of 64 bits' 's/\(multipartition_diagonal(\)uint32_t/\1uint64_t/'
 wrong 'processors of the hypercube of 64 bits' 's/\(multipartition_hypercube_owner(\)uint32_t/\1uint64_t/'
 for call in plan diagonal owner hypercube_owner neighbour slab slab_of tile_number tile_position step timetable chains; do

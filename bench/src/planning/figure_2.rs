@@ -1,6 +1,6 @@
 //! The paper's enumeration: each factor's distributions listed once, then combined in all ways.
 
-use super::{tiles, Cuts, Job, LEAST};
+use super::{tiles, Cuts, Job, LEAST_FACTOR};
 
 /// The distributions of each factor, as powers of it, one after the other in one list.
 struct Distributions {
@@ -30,7 +30,7 @@ pub fn cheapest(job: &Job, leave_early: bool) -> Option<(u64, Cuts)> {
     };
     let mut left = job.p;
     while left > 1 {
-        let factor = u32::from(LEAST[left as usize]);
+        let factor = u32::from(LEAST_FACTOR[left as usize]);
         let mut powers = [1; 13];
         let mut times = 0;
         while left.is_multiple_of(factor) {
@@ -124,8 +124,8 @@ impl Enumeration<'_> {
     #[inline]
     fn fits(&self, cuts: &Cuts) -> bool {
         let mut fits = true;
-        for (b, n) in cuts.iter().zip(&self.job.extents) {
-            fits &= b <= n;
+        for (b, most) in cuts.iter().zip(&self.job.most) {
+            fits &= b <= most;
         }
         fits
     }

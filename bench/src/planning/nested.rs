@@ -1,7 +1,7 @@
 //! The paper's enumeration as its program stands: for every combination of the factors so far, the
 //! next factor's distributions are made anew.
 
-use super::{tiles, Cuts, Job, LEAST};
+use super::{tiles, Cuts, Job, LEAST_FACTOR};
 
 /// The cheapest elementary partitioning that fits.
 pub fn cheapest(job: &Job) -> Option<(u64, Cuts)> {
@@ -30,7 +30,7 @@ impl Nested<'_> {
         };
         let mut left = job.p;
         while left > 1 {
-            let factor = u32::from(LEAST[left as usize]);
+            let factor = u32::from(LEAST_FACTOR[left as usize]);
             let powers = &mut nested.powers[nested.factors];
             let mut times = 0;
             while left.is_multiple_of(factor) {
@@ -84,8 +84,8 @@ impl Nested<'_> {
 
     fn consider(&mut self, cuts: Cuts) {
         let mut cost = 0;
-        for ((&b, &n), &w) in cuts.iter().zip(&self.job.extents).zip(&self.job.weights) {
-            if b > n {
+        for ((&b, &most), &w) in cuts.iter().zip(&self.job.most).zip(&self.job.weights) {
+            if b > most {
                 return;
             }
             cost += u64::from(b) * u64::from(w);

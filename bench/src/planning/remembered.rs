@@ -1,7 +1,7 @@
 //! Cuts chosen dimension after dimension, each choice leaving the same question for one dimension
 //! fewer, and the answers remembered.
 
-use super::{gcd, lcm, Cuts, Job, LEAST};
+use super::{gcd, lcm, Cuts, Job, LEAST_FACTOR};
 
 /// No p up to 4,096 has more divisors.
 const MOST_DIVISORS: usize = 48;
@@ -15,7 +15,7 @@ fn divisors(p: u32) -> ([u32; MOST_DIVISORS], usize) {
     let mut count = 1;
     let mut left = p;
     while left > 1 {
-        let factor = u32::from(LEAST[left as usize]);
+        let factor = u32::from(LEAST_FACTOR[left as usize]);
         let without = count;
         let mut power = 1;
         while left.is_multiple_of(factor) {
@@ -148,7 +148,7 @@ impl Search<'_> {
     }
 
     fn last(&self, k: usize, a: u32, e: u32) -> Choice {
-        if e == 1 && a <= self.job.extents[k] {
+        if e == 1 && a <= self.job.most[k] {
             let cost = u64::from(a - 1) * u64::from(self.job.weights[k]);
             (cost, u64::from(a), a)
         } else {
@@ -168,14 +168,14 @@ impl Search<'_> {
             let b = e * t;
             let cost = u64::from(b - 1) * weight;
             let at_least = cost + u64::from(e - 1) * last_weight;
-            if t > parts || b > self.job.extents[k] || (at_least, fewest) >= (best.0, best.1) {
+            if t > parts || b > self.job.most[k] || (at_least, fewest) >= (best.0, best.1) {
                 break;
             }
             if parts.is_multiple_of(t) {
                 let last = lcm(e, parts / t);
                 let cost = cost + u64::from(last - 1) * last_weight;
                 let tiles = u64::from(b) * u64::from(last);
-                if last <= self.job.extents[k + 1] && (cost, tiles) < (best.0, best.1) {
+                if last <= self.job.most[k + 1] && (cost, tiles) < (best.0, best.1) {
                     best = (cost, tiles, b);
                 }
             }
@@ -191,7 +191,7 @@ impl Search<'_> {
             let cost = u64::from(b - 1) * weight;
             let fewest = u64::from(a).max(u64::from(b) * u64::from(e));
             // The later dimensions may cost nothing.
-            if b > a || b > self.job.extents[k] || (cost, fewest) >= (best.0, best.1) {
+            if b > a || b > self.job.most[k] || (cost, fewest) >= (best.0, best.1) {
                 break;
             }
             if !a.is_multiple_of(b) {

@@ -10,6 +10,8 @@ extern "C" {
         extents_length: usize,
         weights: *const u32,
         weights_length: usize,
+        least: *const u32,
+        least_length: usize,
         plan: *mut u32,
         plan_length: usize,
     ) -> u64;
@@ -21,6 +23,8 @@ extern "C" {
         extents_length: usize,
         weights: *const u32,
         weights_length: usize,
+        least: *const u32,
+        least_length: usize,
         plan: *mut u32,
         plan_length: usize,
     ) -> u64;
@@ -119,7 +123,14 @@ extern "C" {
     ) -> u64;
 }
 
-pub fn plan(p: u32, d: u32, extents: &[u32], weights: &[u32], plan: &mut [u32]) -> u64 {
+pub fn plan(
+    p: u32,
+    d: u32,
+    extents: &[u32],
+    weights: &[u32],
+    least: &[u32],
+    plan: &mut [u32],
+) -> u64 {
     unsafe {
         multipartition_plan(
             p,
@@ -128,13 +139,22 @@ pub fn plan(p: u32, d: u32, extents: &[u32], weights: &[u32], plan: &mut [u32]) 
             extents.len(),
             weights.as_ptr(),
             weights.len(),
+            least.as_ptr(),
+            least.len(),
             plan.as_mut_ptr(),
             plan.len(),
         )
     }
 }
 
-pub fn diagonal(p: u32, d: u32, extents: &[u32], weights: &[u32], plan: &mut [u32]) -> u64 {
+pub fn diagonal(
+    p: u32,
+    d: u32,
+    extents: &[u32],
+    weights: &[u32],
+    least: &[u32],
+    plan: &mut [u32],
+) -> u64 {
     unsafe {
         multipartition_diagonal(
             p,
@@ -143,6 +163,8 @@ pub fn diagonal(p: u32, d: u32, extents: &[u32], weights: &[u32], plan: &mut [u3
             extents.len(),
             weights.as_ptr(),
             weights.len(),
+            least.as_ptr(),
+            least.len(),
             plan.as_mut_ptr(),
             plan.len(),
         )

@@ -1,7 +1,6 @@
 //! Calls beside the independent planner's answers to the same questions.
 
-use oracle::diagonal::diagonal_job;
-use oracle::plan::{plan_job, Plan};
+use oracle::plan::{Job, Plan};
 use oracle::refusal::{self, Refusal};
 use oracle::timetable::{self, Message};
 use oracle::{chains, hypercube, neighbours, owners, slabs, tiles};
@@ -9,26 +8,24 @@ use oracle::{chains, hypercube, neighbours, owners, slabs, tiles};
 use crate::calls;
 use crate::guarded::Guarded;
 use crate::plan_list::{list_of, plan_of};
-use crate::questions::{Job, Question};
+use crate::questions::Question;
 
-/// Memory for the three lists that a call may have. They stand at its end in one call, at its beginning in
-/// the next.
+/// Memory for the up to four lists that a call may have. They stand at its end in one call, at its
+/// beginning in the next.
 #[derive(Default)]
 pub struct Lists {
-    first: Guarded,
-    second: Guarded,
-    third: Guarded,
+    memory: [Guarded; 4],
     at_end: bool,
 }
 
 impl Lists {
-    fn hold(&mut self, lists: [&[u32]; 3]) -> [&mut [u32]; 3] {
+    fn hold<const N: usize>(&mut self, lists: [&[u32]; N]) -> [&mut [u32]; N] {
         self.at_end = !self.at_end;
-        [
-            self.first.hold(lists[0], self.at_end),
-            self.second.hold(lists[1], self.at_end),
-            self.third.hold(lists[2], self.at_end),
-        ]
+        let mut memory = self.memory.iter_mut();
+        lists.map(|list| {
+            let guarded = memory.next().expect("memory for every list");
+            guarded.hold(list, self.at_end)
+        })
     }
 }
 
@@ -135,20 +132,18 @@ pub fn ask(lists: &mut Lists, list: &[u32], question: &Question, lent: &[u32]) -
 
 /// Plans a job, likewise.
 pub fn plan(lists: &mut Lists, job: &Job, lent: &[u32]) -> u64 {
-    let planned = plan_job(job.p, job.d, &job.extents, &job.weights);
-    make(lists, job, lent, planned, calls::plan)
+    make(lists, job, lent, job.plan(), calls::plan)
 }
 
 /// Asks for the diagonal plan of a job, likewise.
 pub fn diagonal(lists: &mut Lists, job: &Job, lent: &[u32]) -> u64 {
-    let planned = diagonal_job(job.p, job.d, &job.extents, &job.weights);
-    make(lists, job, lent, planned, calls::diagonal)
+    make(lists, job, lent, job.diagonal(), calls::diagonal)
 }
 
 /// A call that makes a plan of a job.
-type Planner = fn(u32, u32, &[u32], &[u32], &mut [u32]) -> u64;
+pub type Planner = fn(u32, u32, &[u32], &[u32], &[u32], &mut [u32]) -> u64;
 
-/// Has a plan made, which is to be this one.
+/// Has a plan made, which is to be this one. The lists that say what to plan keep their contents.
 fn make(
     lists: &mut Lists,
     job: &Job,
@@ -156,20 +151,22 @@ fn make(
     planned: Result<Plan, Refusal>,
     call: Planner,
 ) -> u64 {
-    let [extents, weights, lent_list] = lists.hold([&job.extents, &job.weights, lent]);
-    let returned = call(job.p, job.d, extents, weights, lent_list);
+    let given = [&job.extents[..], &job.weights, &job.least];
+    let [extents, weights, least, lent_list] = lists.hold([given[0], given[1], given[2], lent]);
+    let returned = call(job.p, job.d, extents, weights, least, lent_list);
     assert_eq!(
         (returned, lent_list.to_vec()),
         outcome(planned.map(|plan| list_of(&plan).to_vec()), lent),
         "{job:?}"
     );
+    assert_eq!([&*extents, weights, least], given, "{job:?}");
     returned
 }
 
 /// Asks who owns a tile of the hypercube layout, likewise.
 pub fn hypercube_owner(lists: &mut Lists, p: u32, position: &[u32], lent: &[u32]) -> u64 {
     let answered = hypercube::owner(p, position).map(|processor| vec![processor]);
-    let [position, lent_list, _] = lists.hold([position, lent, &[]]);
+    let [position, lent_list] = lists.hold([position, lent]);
     let returned = calls::hypercube_owner(p, position, lent_list);
     assert_eq!(
         (returned, lent_list.to_vec()),

@@ -13,7 +13,8 @@ pub const COST_HIGH: usize = 18;
 pub const MODULI: usize = 19;
 pub const MATRIX: usize = 24;
 pub const KIND: usize = 49;
-pub const PLAN_LENGTH: usize = 50;
+pub const LEAST: usize = 50;
+pub const PLAN_LENGTH: usize = 55;
 pub const ROW_LENGTH: usize = 5;
 
 pub type PlanList = [u32; PLAN_LENGTH];
@@ -33,6 +34,7 @@ pub fn list_of(plan: &Plan) -> PlanList {
         list[MATRIX + i * ROW_LENGTH..][..ROW_LENGTH].copy_from_slice(row);
     }
     list[KIND] = plan.kind;
+    list[LEAST..][..5].copy_from_slice(&plan.least);
     list
 }
 
@@ -50,6 +52,7 @@ pub fn plan_of(list: &[u32]) -> Option<Plan> {
         moduli: five(MODULI),
         matrix: [0, 1, 2, 3, 4].map(|i| five(MATRIX + i * ROW_LENGTH)),
         kind: list[KIND],
+        least: five(LEAST),
     })
 }
 

@@ -1,22 +1,13 @@
 //! Random jobs, plan lists and questions, many of them damaged.
 
-use oracle::cases;
-use oracle::diagonal::diagonal_job;
-use oracle::plan::{plan_job, Plan};
+use oracle::plan::{Job, Plan};
 use oracle::random::Random;
+use oracle::{cases, text};
 
 use crate::plan_list::{
-    list_of, plan_of, CUTS, DIMENSIONS, EXTENTS, KIND, MATRIX, MODULI, PLAN_LENGTH, PROCESSORS,
-    ROW_LENGTH,
+    list_of, plan_of, CUTS, DIMENSIONS, EXTENTS, KIND, LEAST, MATRIX, MODULI, PLAN_LENGTH,
+    PROCESSORS, ROW_LENGTH,
 };
-
-#[derive(Clone, Debug)]
-pub struct Job {
-    pub p: u32,
-    pub d: u32,
-    pub extents: Vec<u32>,
-    pub weights: Vec<u32>,
-}
 
 #[derive(Clone, Debug)]
 pub enum Question {
@@ -130,9 +121,10 @@ pub fn any_numbers(random: &mut Random, count: usize) -> Vec<u32> {
     (0..count).map(|_| random.draw() as u32).collect()
 }
 
-/// A job of the comparison of printed plans, as numbers.
+/// A job of the comparison of printed plans, as lists.
 pub fn job(random: &mut Random) -> Job {
-    job_of(cases::job(random))
+    let line = cases::job(random);
+    job_of(random, &line)
 }
 
 /// A job for a diagonal plan; one in four is made for the planner.
@@ -140,39 +132,36 @@ pub fn job_for_diagonal(random: &mut Random) -> Job {
     if random.once_in(4) {
         job(random)
     } else {
-        job_of(cases::diagonal(random))
+        let line = cases::diagonal(random);
+        job_of(random, &line)
     }
 }
 
-/// The job of a line. Extents and weights share what follows d, so they are not d many if the line has too few or too
-/// many numbers.
-fn job_of(line: Vec<u8>) -> Job {
-    let line = String::from_utf8(line).expect("digits and blanks");
-    let numbers: Vec<u32> = line
-        .split_whitespace()
-        .map(|word| word.parse().expect("a number of 32 bits"))
-        .collect();
-    let rest = &numbers[2..];
-    let (extents, weights) = rest.split_at(rest.len().min(numbers[1] as usize));
-    Job {
-        p: numbers[0],
-        d: numbers[1],
-        extents: extents.to_vec(),
-        weights: weights.to_vec(),
+/// The job of a line, or, once in a while, with one of its lists made shorter or longer.
+fn job_of(random: &mut Random, line: &[u8]) -> Job {
+    let mut job = text::job(line).expect("a readable line");
+    if random.once_in(24) {
+        let length = random.between(0, 7) as usize;
+        let list = match random.between(0, 2) {
+            0 => &mut job.extents,
+            1 => &mut job.weights,
+            _ => &mut job.least,
+        };
+        list.resize(length, random.between(0, 2) as u32);
     }
+    job
 }
 
 /// Plans of random jobs.
 pub fn planned(random: &mut Random, count: usize) -> Vec<Plan> {
     let jobs = std::iter::repeat_with(|| job(random));
-    let plans = jobs.filter_map(|job| plan_job(job.p, job.d, &job.extents, &job.weights).ok());
-    plans.take(count).collect()
+    jobs.filter_map(|job| job.plan().ok()).take(count).collect()
 }
 
 /// Diagonal plans of random jobs.
 pub fn diagonals(random: &mut Random, count: usize) -> Vec<Plan> {
     let jobs = std::iter::repeat_with(|| job_for_diagonal(random));
-    let plans = jobs.filter_map(|job| diagonal_job(job.p, job.d, &job.extents, &job.weights).ok());
+    let plans = jobs.filter_map(|job| job.diagonal().ok());
     plans.take(count).collect()
 }
 
@@ -198,8 +187,8 @@ fn factor(random: &mut Random, most: u64) -> u64 {
     random.between(1, high)
 }
 
-/// A plan in shape that no planner made: any cuts, any moduli that multiply to p, any matrix, either kind, and anything
-/// in the places past d.
+/// A plan in shape that no planner made: any cuts, any moduli that multiply to p, any matrix, either kind, any least
+/// thicknesses that the slabs have, often as large as can be, and anything in the places past d.
 pub fn made_by_hand(random: &mut Random) -> Plan {
     let d = random.between(2, 5) as usize;
     let mut list = any_numbers(random, PLAN_LENGTH);
@@ -208,11 +197,15 @@ pub fn made_by_hand(random: &mut Random) -> Plan {
         let modulus = factor(random, 4096 / p);
         let cut = factor(random, 4096.min(16_777_216 / tiles));
         let extent = cut + factor(random, 1_000_001 - cut) - 1;
+        let most = extent / cut;
+        let any = factor(random, most);
+        let thickness = *random.pick(&[1, any, most]);
         p *= modulus;
         tiles *= cut;
         list[EXTENTS + k] = extent as u32;
         list[CUTS + k] = cut as u32;
         list[MODULI + k] = modulus as u32;
+        list[LEAST + k] = thickness as u32;
         for j in 0..d {
             list[MATRIX + k * ROW_LENGTH + j] = random.between(0, modulus - 1) as u32;
         }
@@ -230,7 +223,7 @@ pub fn plan_list(random: &mut Random, pool: &[Plan]) -> Vec<u32> {
     } else {
         list_of(&made_by_hand(random)).to_vec()
     };
-    match random.between(0, 16) {
+    match random.between(0, 17) {
         0..=8 => (),
         9..=13 => {
             for _ in 0..random.between(1, 3) {
@@ -241,13 +234,15 @@ pub fn plan_list(random: &mut Random, pool: &[Plan]) -> Vec<u32> {
         14 => list = any_numbers(random, PLAN_LENGTH),
         // "A kind above 1 is a 6."
         15 => list[KIND] = *random.pick(&[2, 3, u32::MAX]),
+        16 => change_thickness(random, &mut list),
         _ => {
             let length = *random.pick(&[
                 0,
                 1,
                 MATRIX,
-                // How long a list was before it had a kind.
+                // How long a list was before it had a kind, and before it had thicknesses.
                 KIND,
+                LEAST,
                 PLAN_LENGTH + 1,
                 2 * PLAN_LENGTH,
             ]);
@@ -255,6 +250,18 @@ pub fn plan_list(random: &mut Random, pool: &[Plan]) -> Vec<u32> {
         }
     }
     list
+}
+
+/// Changes a least thickness of a list in order: "A plan that breaks the rule or holds a thickness of 0 is a 6". It
+/// becomes 0, or what just fits, or one too thick, or huge; also so huge that its product with the cut has 33 bits, of
+/// which the lower 32 are below the cut.
+fn change_thickness(random: &mut Random, list: &mut [u32]) {
+    let k = random.between(0, u64::from(list[DIMENSIONS]) - 1) as usize;
+    let (extent, cut) = (list[EXTENTS + k], list[CUTS + k]);
+    let most = extent / cut;
+    let wrapped = (1u64 << 32).div_ceil(u64::from(cut));
+    let wrapped = u32::try_from(wrapped).unwrap_or(u32::MAX);
+    list[LEAST + k] = *random.pick(&[0, most, most, most + 1, wrapped, u32::MAX]);
 }
 
 /// The number at a place of a list that may be too short.
@@ -312,7 +319,8 @@ pub fn move_to_limit(random: &mut Random, plan: &mut Plan, k: usize) {
     let rest = (0..d).filter(|&i| i != j && i != k);
     let product: u128 = rest.map(|i| u128::from(plan.extents[i])).product();
     let extent = u128::from(u32::MAX) / product + u128::from(random.between(0, 1));
-    if (u128::from(plan.cuts[j])..=1_000_000).contains(&extent) {
+    let fits = u128::from(plan.cuts[j]) * u128::from(plan.least[j]) <= extent;
+    if fits && extent <= 1_000_000 {
         plan.extents[j] = extent as u32;
     }
 }
@@ -401,5 +409,25 @@ mod tests {
             let plan = made_by_hand(&mut random);
             assert_eq!(plan.check_shape(), Ok(()), "{plan:?}");
         }
+    }
+
+    #[test]
+    fn changed_thicknesses() {
+        let mut random = Random::new(2);
+        let (mut fits, mut too_thick, mut wrapped) = (0, 0, 0);
+        for _ in 0..20_000 {
+            let mut list = list_of(&made_by_hand(&mut random));
+            change_thickness(&mut random, &mut list);
+            let plan = plan_of(&list).expect("a list of the right length");
+            let product = |k: usize| u64::from(plan.cuts[k]) * u64::from(plan.least[k]);
+            let over = (0..plan.dimensions()).find(|&k| product(k) > u64::from(plan.extents[k]));
+            match over {
+                None => fits += u32::from(plan.check_shape().is_ok()),
+                Some(k) if product(k) as u32 <= plan.extents[k] => wrapped += 1,
+                Some(_) => too_thick += 1,
+            }
+        }
+        let counts = [fits, too_thick, wrapped];
+        assert!(counts.iter().all(|&count| count > 2_000), "{counts:?}");
     }
 }

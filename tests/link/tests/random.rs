@@ -5,16 +5,16 @@ use std::collections::{BTreeMap, HashMap};
 use std::mem::discriminant;
 
 use link::calls;
-use link::compared::{ask, chain, diagonal, hypercube_owner, plan, Lists};
+use link::compared::{ask, chain, diagonal, hypercube_owner, plan, Lists, Planner};
 use link::guarded::ROOM;
 use link::plan_list::{
-    list_of, plan_of, PlanList, COST_HIGH, COST_LOW, CUTS, DIMENSIONS, KIND, PLAN_LENGTH,
+    list_of, plan_of, PlanList, COST_HIGH, COST_LOW, CUTS, DIMENSIONS, KIND, LEAST, PLAN_LENGTH,
 };
 use link::questions::{
     any_numbers, diagonals, dimensions, hypercube, job, job_for_diagonal, lent, made_by_hand,
-    move_to_limit, plan_list, planned, question, tiles_in_slab, timetable, Job, Question,
+    move_to_limit, plan_list, planned, question, tiles_in_slab, timetable, Question,
 };
-use oracle::plan::{Plan, DIAGONAL};
+use oracle::plan::{Job, Plan, DIAGONAL};
 use oracle::random::Random;
 use oracle::timetable::{other_extents, Message, Visit};
 
@@ -174,7 +174,7 @@ fn largest_timetables() {
     let mut lists = Lists::default();
     let mut list = [0; PLAN_LENGTH];
     assert_eq!(
-        calls::plan(4096, 3, &[9, 4096, 5000], &[1; 3], &mut list),
+        calls::plan(4096, 3, &[9, 4096, 5000], &[1; 3], &[], &mut list),
         0
     );
     list[CUTS..][..3].copy_from_slice(&[1, 4096, 4096]);
@@ -187,7 +187,8 @@ fn largest_timetables() {
     assert_eq!(ask(&mut lists, &list, &question(1, 0, 4095), &[77; 8]), 0);
     assert_eq!(ask(&mut lists, &list, &question(2, 4094, 7), &[77; 8]), 0);
 
-    assert_eq!(calls::plan(1, 3, &[65535, 65537, 9], &[1; 3], &mut list), 0);
+    let extents = [65535, 65537, 9];
+    assert_eq!(calls::plan(1, 3, &extents, &[1; 3], &[], &mut list), 0);
     for cuts in [[1, 1, 3], [2, 3, 3], [64, 32, 9]] {
         list[CUTS..][..3].copy_from_slice(&cuts);
         let told = visit(&list, 3, 1, 1, 0);
@@ -296,7 +297,7 @@ fn jobs() {
         let lent = lent(&mut random, PLAN_LENGTH);
         seen.note(plan(&mut lists, &job, &lent));
     }
-    seen.check(&[0, 1, 2, 3, 4, 5, 9], 30);
+    seen.check(&[0, 1, 2, 3, 4, 5, 9, 13], 30);
 }
 
 #[test]
@@ -309,7 +310,7 @@ fn jobs_for_diagonal_plans() {
         let lent = lent(&mut random, PLAN_LENGTH);
         seen.note(diagonal(&mut lists, &job, &lent));
     }
-    seen.check(&[0, 1, 2, 3, 4, 5, 9, 12], 100);
+    seen.check(&[0, 1, 2, 3, 4, 5, 9, 12, 13], 100);
 }
 
 /// Every count of processors in both older layouts: which of them suit.
@@ -324,6 +325,7 @@ fn every_count_of_the_older_layouts() {
                 d,
                 extents: vec![extent; d as usize],
                 weights: vec![1; d as usize],
+                least: Vec::new(),
             };
             seen[d as usize - 2] += u32::from(diagonal(&mut lists, &job, &[77; PLAN_LENGTH]) == 0);
         }
@@ -340,18 +342,49 @@ fn the_planner_costs_no_more() {
     while equal + dearer < 4_000 {
         let job = job_for_diagonal(&mut random);
         let (mut ours, mut theirs) = ([77; PLAN_LENGTH], [77; PLAN_LENGTH]);
-        let (p, d, extents, weights) = (job.p, job.d, &job.extents, &job.weights);
-        if calls::diagonal(p, d, extents, weights, &mut theirs) != 0 {
+        if call(calls::diagonal, &job, &mut theirs) != 0 {
             continue;
         }
-        assert_eq!(calls::plan(p, d, extents, weights, &mut ours), 0, "{job:?}");
+        assert_eq!(call(calls::plan, &job, &mut ours), 0, "{job:?}");
         assert_eq!((ours[KIND], theirs[KIND]), (0, 1));
+        assert_eq!(ours[LEAST..], theirs[LEAST..]);
         let (cost, other) = (cost(&ours), cost(&theirs));
         assert!(cost <= other, "{job:?}");
         equal += u32::from(cost == other);
         dearer += u32::from(cost < other);
     }
     assert!(equal > 1_000 && dearer > 50, "{equal}, {dearer}");
+}
+
+/// Has one of the two planning calls plan a job.
+fn call(planner: Planner, job: &Job, list: &mut [u32]) -> u64 {
+    planner(job.p, job.d, &job.extents, &job.weights, &job.least, list)
+}
+
+/// "A job and a plan gain a least thickness for each dimension, 1 where none is given": an empty list, and one of ones.
+#[test]
+fn no_thicknesses_are_ones() {
+    let mut random = Random::new(12);
+    let planners: [Planner; 2] = [calls::plan, calls::diagonal];
+    let mut seen = Seen::default();
+    for _ in 0..10_000 {
+        let mut job = job_for_diagonal(&mut random);
+        for planner in planners {
+            let (mut none, mut ones) = ([77; PLAN_LENGTH], [77; PLAN_LENGTH]);
+            job.least = Vec::new();
+            let returned = call(planner, &job, &mut none);
+            job.least = vec![1; job.d.min(6) as usize];
+            assert_eq!(call(planner, &job, &mut ones), returned, "{job:?}");
+            assert_eq!(ones, none, "{job:?}");
+            if returned == 0 {
+                let mut expected = [0; 5];
+                expected[..job.d as usize].fill(1);
+                assert_eq!(none[LEAST..], expected);
+            }
+            seen.note(returned);
+        }
+    }
+    seen.check(&[0, 1, 2, 3, 4, 5, 12], 100);
 }
 
 fn cost(list: &PlanList) -> u64 {
@@ -362,7 +395,7 @@ fn cost(list: &PlanList) -> u64 {
 fn diagonal_list(d: usize, slabs: u32) -> PlanList {
     let mut list = [77; PLAN_LENGTH];
     let (p, extents, weights) = (slabs.pow(d as u32 - 1), vec![slabs; d], vec![1; d]);
-    let returned = calls::diagonal(p, d as u32, &extents, &weights, &mut list);
+    let returned = calls::diagonal(p, d as u32, &extents, &weights, &[], &mut list);
     assert_eq!(returned, 0, "{slabs} slabs each way, {d} dimensions");
     list
 }

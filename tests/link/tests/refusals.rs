@@ -5,22 +5,23 @@ use link::calls::{
     chains, diagonal, hypercube_owner, neighbour, owner, plan, slab, slab_of, step, tile_number,
     tile_position, timetable,
 };
+use link::compared::Planner;
 use link::plan_list::{
-    PlanList, COST_HIGH, COST_LOW, CUTS, DIMENSIONS, EXTENTS, KIND, MATRIX, MODULI, PLAN_LENGTH,
-    PROCESSORS, ROW_LENGTH, WEIGHTS,
+    PlanList, COST_HIGH, COST_LOW, CUTS, DIMENSIONS, EXTENTS, KIND, LEAST, MATRIX, MODULI,
+    PLAN_LENGTH, PROCESSORS, ROW_LENGTH, WEIGHTS,
 };
 
 /// The plan of 4 processors on a grid of 8 by 8 by 8: cuts 2 2 2.
 fn planned() -> PlanList {
     let mut list = [7; PLAN_LENGTH];
-    assert_eq!(plan(4, 3, &[8; 3], &[1; 3], &mut list), 0);
+    assert_eq!(plan(4, 3, &[8; 3], &[1; 3], &[], &mut list), 0);
     list
 }
 
 /// The diagonal plan of the same job.
 fn planned_diagonally() -> PlanList {
     let mut list = [7; PLAN_LENGTH];
-    assert_eq!(diagonal(4, 3, &[8; 3], &[1; 3], &mut list), 0);
+    assert_eq!(diagonal(4, 3, &[8; 3], &[1; 3], &[], &mut list), 0);
     list
 }
 
@@ -33,66 +34,123 @@ fn refused<const N: usize>(expected: u64, call: impl FnOnce(&mut [u32]) -> u64) 
 
 #[test]
 fn jobs() {
-    refused::<PLAN_LENGTH>(1, |list| plan(0, 6, &[], &[], list));
-    refused::<PLAN_LENGTH>(1, |list| plan(0, 1, &[], &[], list));
-    refused::<PLAN_LENGTH>(2, |list| plan(0, 2, &[], &[], list));
-    refused::<PLAN_LENGTH>(2, |list| plan(4097, 5, &[1], &[], list));
-    refused::<PLAN_LENGTH>(3, |list| plan(1, 2, &[0; 3], &[0; 2], list));
-    refused::<PLAN_LENGTH>(3, |list| plan(1, 2, &[0; 2], &[0; 1], list));
-    refused::<PLAN_LENGTH>(4 | 1 << 32, |list| plan(1, 2, &[0, 0], &[0; 2], list));
+    refused::<PLAN_LENGTH>(1, |list| plan(0, 6, &[], &[], &[], list));
+    refused::<PLAN_LENGTH>(1, |list| plan(0, 1, &[], &[], &[], list));
+    refused::<PLAN_LENGTH>(2, |list| plan(0, 2, &[], &[], &[], list));
+    refused::<PLAN_LENGTH>(2, |list| plan(4097, 5, &[1], &[], &[], list));
+    refused::<PLAN_LENGTH>(3, |list| plan(1, 2, &[0; 3], &[0; 2], &[], list));
+    refused::<PLAN_LENGTH>(3, |list| plan(1, 2, &[0; 2], &[0; 1], &[], list));
+    refused::<PLAN_LENGTH>(4 | 1 << 32, |list| plan(1, 2, &[0, 0], &[0; 2], &[], list));
     refused::<PLAN_LENGTH>(4 | 2 << 32, |list| {
-        plan(1, 2, &[1, 1_000_001], &[0; 2], list)
+        plan(1, 2, &[1, 1_000_001], &[0; 2], &[], list)
     });
     refused::<PLAN_LENGTH>(4 | 5 << 32, |list| {
-        plan(1, 5, &[1, 1, 1, 1, 0], &[0; 5], list)
+        plan(1, 5, &[1, 1, 1, 1, 0], &[0; 5], &[], list)
     });
-    refused::<PLAN_LENGTH>(5, |list| plan(2, 2, &[1, 9], &[1; 2], list));
-    refused::<{ PLAN_LENGTH - 1 }>(5, |list| plan(4, 3, &[1, 3, 9], &[1; 3], list));
-    refused::<{ PLAN_LENGTH - 1 }>(9, |list| plan(4, 3, &[8; 3], &[1; 3], list));
-    refused::<{ PLAN_LENGTH + 1 }>(9, |list| plan(4, 3, &[8; 3], &[1; 3], list));
-    refused::<0>(9, |list| plan(4, 3, &[8; 3], &[1; 3], list));
+    refused::<PLAN_LENGTH>(5, |list| plan(2, 2, &[1, 9], &[1; 2], &[], list));
+    refused::<{ PLAN_LENGTH - 1 }>(5, |list| plan(4, 3, &[1, 3, 9], &[1; 3], &[], list));
+    refused::<{ PLAN_LENGTH - 1 }>(9, |list| plan(4, 3, &[8; 3], &[1; 3], &[], list));
+    refused::<{ PLAN_LENGTH + 1 }>(9, |list| plan(4, 3, &[8; 3], &[1; 3], &[], list));
+    refused::<0>(9, |list| plan(4, 3, &[8; 3], &[1; 3], &[], list));
 }
 
 /// "12, p or d doesn't suit the layout, after 2 and before 3; a cut above its extent stays a 5."
 #[test]
 fn jobs_for_diagonal_plans() {
-    refused::<PLAN_LENGTH>(1, |list| diagonal(0, 6, &[], &[], list));
-    refused::<PLAN_LENGTH>(1, |list| diagonal(0, 1, &[], &[], list));
-    refused::<0>(1, |list| diagonal(5, u32::MAX, &[], &[], list));
-    refused::<PLAN_LENGTH>(2, |list| diagonal(0, 4, &[], &[], list));
-    refused::<PLAN_LENGTH>(2, |list| diagonal(4097, 3, &[8; 3], &[1; 3], list));
-    refused::<0>(2, |list| diagonal(u32::MAX, 2, &[0; 2], &[1; 2], list));
+    refused::<PLAN_LENGTH>(1, |list| diagonal(0, 6, &[], &[], &[], list));
+    refused::<PLAN_LENGTH>(1, |list| diagonal(0, 1, &[], &[], &[], list));
+    refused::<0>(1, |list| diagonal(5, u32::MAX, &[], &[], &[], list));
+    refused::<PLAN_LENGTH>(2, |list| diagonal(0, 4, &[], &[], &[], list));
+    refused::<PLAN_LENGTH>(2, |list| diagonal(4097, 3, &[8; 3], &[1; 3], &[], list));
+    refused::<0>(2, |list| diagonal(u32::MAX, 2, &[0; 2], &[1; 2], &[], list));
     for d in [4, 5] {
         for p in [1, 4, 16, 4096] {
             let (extents, weights) = (vec![4096; d], vec![1; d]);
-            refused::<PLAN_LENGTH>(12, |list| diagonal(p, d as u32, &extents, &weights, list));
-            refused::<0>(12, |list| diagonal(p, d as u32, &[0], &weights, list));
+            refused::<PLAN_LENGTH>(12, |list| {
+                diagonal(p, d as u32, &extents, &weights, &[], list)
+            });
+            refused::<0>(12, |list| diagonal(p, d as u32, &[0], &weights, &[], list));
         }
     }
     for p in [2, 3, 5, 6, 8, 10, 15, 17, 24, 4095] {
-        refused::<PLAN_LENGTH>(12, |list| diagonal(p, 3, &[4096; 3], &[1; 3], list));
-        refused::<PLAN_LENGTH>(12, |list| diagonal(p, 3, &[0; 2], &[1; 3], list));
-        refused::<0>(12, |list| diagonal(p, 3, &[0; 3], &[], list));
+        refused::<PLAN_LENGTH>(12, |list| diagonal(p, 3, &[4096; 3], &[1; 3], &[], list));
+        refused::<PLAN_LENGTH>(12, |list| diagonal(p, 3, &[0; 2], &[1; 3], &[], list));
+        refused::<0>(12, |list| diagonal(p, 3, &[0; 3], &[], &[], list));
     }
-    refused::<PLAN_LENGTH>(3, |list| diagonal(4, 3, &[0; 2], &[1; 3], list));
-    refused::<PLAN_LENGTH>(3, |list| diagonal(4, 3, &[0; 3], &[1; 2], list));
-    refused::<PLAN_LENGTH>(3, |list| diagonal(6, 2, &[0; 3], &[1; 2], list));
-    refused::<0>(3, |list| diagonal(6, 2, &[0; 2], &[1; 3], list));
-    refused::<PLAN_LENGTH>(4 | 2 << 32, |list| diagonal(8, 2, &[9, 0], &[1; 2], list));
+    refused::<PLAN_LENGTH>(3, |list| diagonal(4, 3, &[0; 2], &[1; 3], &[], list));
+    refused::<PLAN_LENGTH>(3, |list| diagonal(4, 3, &[0; 3], &[1; 2], &[], list));
+    refused::<PLAN_LENGTH>(3, |list| diagonal(6, 2, &[0; 3], &[1; 2], &[], list));
+    refused::<0>(3, |list| diagonal(6, 2, &[0; 2], &[1; 3], &[], list));
     refused::<PLAN_LENGTH>(4 | 2 << 32, |list| {
-        diagonal(8, 2, &[7, 1_000_001], &[1; 2], list)
+        diagonal(8, 2, &[9, 0], &[1; 2], &[], list)
+    });
+    refused::<PLAN_LENGTH>(4 | 2 << 32, |list| {
+        diagonal(8, 2, &[7, 1_000_001], &[1; 2], &[], list)
     });
     refused::<0>(4 | 3 << 32, |list| {
-        diagonal(4, 3, &[1, 1, 0], &[1; 3], list)
+        diagonal(4, 3, &[1, 1, 0], &[1; 3], &[], list)
     });
-    refused::<PLAN_LENGTH>(5, |list| diagonal(4096, 3, &[64, 64, 63], &[1; 3], list));
-    refused::<PLAN_LENGTH>(5, |list| diagonal(8, 2, &[7, 9], &[0; 2], list));
+    refused::<PLAN_LENGTH>(5, |list| {
+        diagonal(4096, 3, &[64, 64, 63], &[1; 3], &[], list)
+    });
+    refused::<PLAN_LENGTH>(5, |list| diagonal(8, 2, &[7, 9], &[0; 2], &[], list));
     // The planner has 1 4 4 for it.
-    refused::<PLAN_LENGTH>(5, |list| diagonal(4, 3, &[1, 4, 4], &[1; 3], list));
-    refused::<0>(5, |list| diagonal(4, 3, &[8, 8, 1], &[1; 3], list));
-    refused::<{ PLAN_LENGTH - 1 }>(9, |list| diagonal(4, 3, &[8; 3], &[1; 3], list));
-    refused::<{ PLAN_LENGTH + 1 }>(9, |list| diagonal(4, 3, &[8; 3], &[1; 3], list));
-    refused::<0>(9, |list| diagonal(4, 3, &[8; 3], &[1; 3], list));
+    refused::<PLAN_LENGTH>(5, |list| diagonal(4, 3, &[1, 4, 4], &[1; 3], &[], list));
+    refused::<0>(5, |list| diagonal(4, 3, &[8, 8, 1], &[1; 3], &[], list));
+    refused::<{ PLAN_LENGTH - 1 }>(9, |list| diagonal(4, 3, &[8; 3], &[1; 3], &[], list));
+    refused::<{ PLAN_LENGTH + 1 }>(9, |list| diagonal(4, 3, &[8; 3], &[1; 3], &[], list));
+    refused::<0>(9, |list| diagonal(4, 3, &[8; 3], &[1; 3], &[], list));
+}
+
+/// "13, a thickness of 0 in a job, with the first such dimension as place, after 4 and before 5; refusal 3 covers a
+/// thickness list that is neither empty nor d long."
+#[test]
+fn jobs_with_thicknesses() {
+    let calls: [Planner; 2] = [plan, diagonal];
+    for call in calls {
+        refused::<PLAN_LENGTH>(1, |list| call(2, 6, &[6; 6], &[1; 6], &[0; 6], list));
+        refused::<PLAN_LENGTH>(2, |list| call(0, 2, &[6; 2], &[1; 2], &[0; 2], list));
+        for length in [1, 3, 4, 5, 6] {
+            let least = vec![0; length];
+            refused::<PLAN_LENGTH>(3, |list| call(2, 2, &[0; 2], &[1; 2], &least, list));
+            refused::<PLAN_LENGTH>(3, |list| call(2, 2, &[6; 2], &[1; 2], &least, list));
+            refused::<0>(3, |list| call(2, 2, &[6; 2], &[1; 2], &least, list));
+        }
+        let grid = |extents: [u32; 2], least: [u32; 2]| {
+            move |list: &mut [u32]| call(2, 2, &extents, &[1; 2], &least, list)
+        };
+        refused::<PLAN_LENGTH>(4 | 2 << 32, grid([6, 0], [0, 3]));
+        refused::<0>(4 | 1 << 32, grid([1_000_001, 6], [0, 0]));
+        refused::<PLAN_LENGTH>(13 | 1 << 32, grid([6, 6], [0, 3]));
+        refused::<PLAN_LENGTH>(13 | 2 << 32, grid([6, 6], [3, 0]));
+        refused::<PLAN_LENGTH>(13 | 1 << 32, grid([6, 6], [0, 0]));
+        refused::<PLAN_LENGTH>(13 | 2 << 32, grid([1, 9], [1, 0]));
+        refused::<0>(13 | 2 << 32, grid([1, 9], [u32::MAX, 0]));
+        refused::<PLAN_LENGTH>(5, grid([6, 5], [3, 3]));
+        refused::<PLAN_LENGTH>(5, grid([5, 6], [3, 3]));
+        refused::<0>(5, grid([6, 5], [3, 3]));
+        // Two times the thickness is 2 to the power 32, and just below 2 to the power 33.
+        refused::<PLAN_LENGTH>(5, grid([6, 6], [1, 1 << 31]));
+        refused::<PLAN_LENGTH>(5, grid([6, 6], [u32::MAX, 1]));
+        refused::<0>(9, grid([6, 6], [3, 3]));
+        refused::<LEAST>(9, grid([6, 6], [3, 3]));
+        // A lone processor, and as many as there may be; the product is 4,096 more than 2 to the power 32.
+        refused::<PLAN_LENGTH>(5, |list| call(1, 2, &[3; 2], &[1; 2], &[4, 1], list));
+        let least = [1_048_577, 1];
+        refused::<PLAN_LENGTH>(5, |list| call(4096, 2, &[5000; 2], &[1; 2], &least, list));
+    }
+    refused::<PLAN_LENGTH>(13 | 5 << 32, |list| {
+        plan(9, 5, &[1; 5], &[1; 5], &[2, 2, 2, 2, 0], list)
+    });
+    refused::<PLAN_LENGTH>(5, |list| plan(36, 3, &[40; 3], &[1; 3], &[7, 6, 6], list));
+    // 12 before 3 and 13.
+    for length in 1..=6 {
+        let least = vec![0; length];
+        refused::<PLAN_LENGTH>(12, |list| diagonal(5, 3, &[0; 3], &[1; 3], &least, list));
+        refused::<0>(12, |list| diagonal(4, 4, &[8; 4], &[1; 4], &least, list));
+    }
+    // The planner has 4 4 1 for it.
+    refused::<PLAN_LENGTH>(5, |list| diagonal(4, 3, &[8; 3], &[1; 3], &[1, 1, 5], list));
 }
 
 /// "p = 4 to the power e with e from 0 to 6 [...]: three dimensions of 2 to the power e slabs."
@@ -141,13 +199,13 @@ fn no_plan(list: &[u32]) {
     refused::<8>(6, |nexts| chains(list, &mut [0; 4], nexts));
 }
 
-/// Among them lists of 49 places, as they were before they had a kind.
+/// Among them lists of 49 places, as they were before they had a kind, and of 50, before they had thicknesses.
 #[test]
 fn plan_lists_of_another_length() {
-    assert_eq!((KIND, PLAN_LENGTH), (49, 50));
+    assert_eq!((KIND, LEAST, PLAN_LENGTH), (49, 50, 55));
     for list in [planned(), planned_diagonally()] {
         let longer = [list.to_vec(), vec![0]].concat();
-        for length in [0, KIND, PLAN_LENGTH + 1] {
+        for length in [0, KIND, LEAST, PLAN_LENGTH - 1, PLAN_LENGTH + 1] {
             no_plan(&longer[..length]);
         }
     }
@@ -155,7 +213,8 @@ fn plan_lists_of_another_length() {
 
 #[test]
 fn plans_out_of_shape() {
-    // d, p, an extent, a cut below and above its range, a modulus, the moduli's product, an entry, the kind
+    // d, p, an extent, a cut below and above its range, a modulus, the moduli's product, an entry, the kind, a least
+    // thickness of 0 and above what the slabs have, also where twice the thickness is 2 to the power 32
     let damage = [
         (DIMENSIONS, 1),
         (DIMENSIONS, 6),
@@ -176,11 +235,60 @@ fn plans_out_of_shape() {
         (KIND, 2),
         (KIND, 3),
         (KIND, u32::MAX),
+        (LEAST, 0),
+        (LEAST + 1, 0),
+        (LEAST + 2, 0),
+        (LEAST, 5),
+        (LEAST + 1, 1 << 31),
+        (LEAST + 2, u32::MAX),
     ];
     for (place, number) in damage {
         for mut list in [planned(), planned_diagonally()] {
             list[place] = number;
             no_plan(&list);
+        }
+    }
+}
+
+/// "A plan that breaks the rule or holds a thickness of 0 is a 6"; one that keeps it is answered, whatever the places
+/// past d hold.
+#[test]
+fn thicknesses_of_plans_made_by_hand() {
+    // Extents, cuts and thicknesses of three dimensions, and whether they go together.
+    let cases = [
+        ([8, 8, 8], [2, 2, 2], [4, 4, 4], true),
+        ([8, 8, 8], [2, 2, 2], [4, 5, 4], false),
+        ([8, 8, 7], [2, 2, 2], [4, 4, 4], false),
+        ([8, 8, 8], [1, 1, 8], [8, 8, 1], true),
+        ([8, 8, 8], [1, 1, 8], [8, 9, 1], false),
+        ([8, 8, 8], [1, 1, 8], [1, 8, 8], false),
+        ([9, 9, 9], [1, 2, 4], [9, 4, 2], true),
+        ([9, 9, 9], [1, 2, 4], [9, 4, 3], false),
+        ([1_000_000, 1, 1], [4096, 1, 1], [244, 1, 1], true),
+        ([1_000_000, 1, 1], [4096, 1, 1], [245, 1, 1], false),
+        ([999_423, 1, 1], [4096, 1, 1], [244, 1, 1], false),
+        ([1_000_000, 1, 1], [1, 1, 1], [1_000_000, 1, 1], true),
+        ([1_000_000, 1, 1], [1, 1, 1], [1_000_001, 1, 1], false),
+        // 4,096 * 1,048,577 is 4,096 more than 2 to the power 32.
+        ([5000, 1, 1], [4096, 1, 1], [1_048_577, 1, 1], false),
+        ([5000, 1, 1], [4096, 1, 1], [1_048_576, 1, 1], false),
+        ([5000, 1, 1], [4096, 1, 1], [u32::MAX, 1, 1], false),
+        ([5000, 1, 1], [1, 1, 1], [1, 0, 1], false),
+    ];
+    for (extents, cuts, least, right) in cases {
+        for past in [0, 1, u32::MAX] {
+            let mut list = planned();
+            list[EXTENTS..][..3].copy_from_slice(&extents);
+            list[CUTS..][..3].copy_from_slice(&cuts);
+            list[LEAST..].fill(past);
+            list[LEAST..][..3].copy_from_slice(&least);
+            if right {
+                let mut one = [77];
+                assert_eq!((owner(&list, &[0; 3], &mut one), one), (0, [0]));
+                assert_eq!((slab_of(&list, 1, 0, &mut one), one), (0, [0]));
+            } else {
+                no_plan(&list);
+            }
         }
     }
 }
@@ -234,7 +342,7 @@ fn seven_before_eight_before_nine() {
 fn grid(p: u32, extents: &[u32]) -> PlanList {
     let mut list = [7; PLAN_LENGTH];
     let (d, weights) = (extents.len(), vec![1; extents.len()]);
-    assert_eq!(plan(p, d as u32, extents, &weights, &mut list), 0);
+    assert_eq!(plan(p, d as u32, extents, &weights, &[], &mut list), 0);
     list
 }
 
@@ -301,6 +409,7 @@ fn answers_of_the_first_example() {
         list[..20],
         [3, 4, 8, 8, 8, 0, 0, 1, 1, 1, 0, 0, 2, 2, 2, 0, 0, 3, 0, 1]
     );
+    assert_eq!(list[KIND..], [0, 1, 1, 1, 0, 0]);
     let mut one = [77];
     assert_eq!((owner(&list, &[1, 0, 0], &mut one), one), (0, [2]));
     let mut two = [77; 2];
@@ -333,10 +442,41 @@ fn answers_of_the_first_example() {
     assert_eq!((heads, nexts), ([1, 2, 4, 3], [8, 7, 6, 5, 0, 0, 0, 0]));
 }
 
+/// "With p = 2 and thickness 3 both ways, 6 6 is cut 2 2", and other plans that a thickness moves.
+#[test]
+fn plans_with_thicknesses() {
+    let mut list = [77; PLAN_LENGTH];
+    assert_eq!(plan(2, 2, &[6, 6], &[1, 1], &[3, 3], &mut list), 0);
+    let mut expected = [0; PLAN_LENGTH];
+    expected[..4].copy_from_slice(&[2, 2, 6, 6]);
+    expected[WEIGHTS..][..2].copy_from_slice(&[1, 1]);
+    expected[CUTS..][..2].copy_from_slice(&[2, 2]);
+    expected[COST_LOW] = 2;
+    expected[MODULI..][..2].copy_from_slice(&[1, 2]);
+    expected[MATRIX + ROW_LENGTH..][..2].copy_from_slice(&[1, 1]);
+    expected[LEAST..][..2].copy_from_slice(&[3, 3]);
+    assert_eq!(list, expected);
+
+    let figures = [
+        (4, [8; 3], [1, 1, 5], [4, 4, 1], 6),
+        (4, [8; 3], [4, 4, 4], [2, 2, 2], 3),
+        (4, [8; 3], [5, 2, 2], [1, 4, 4], 6),
+        (6, [9; 3], [1, 4, 1], [3, 2, 6], 8),
+        (36, [40; 3], [6, 6, 6], [6, 6, 6], 15),
+        (36, [40; 3], [20, 2, 2], [2, 18, 18], 35),
+    ];
+    for (p, extents, least, cuts, cost) in figures {
+        assert_eq!(plan(p, 3, &extents, &[1; 3], &least, &mut list), 0);
+        assert_eq!(list[CUTS..][..3], cuts);
+        assert_eq!((list[COST_LOW], list[COST_HIGH]), (cost, 0));
+        assert_eq!(list[LEAST..], [least[0], least[1], least[2], 0, 0]);
+    }
+}
+
 #[test]
 fn an_uncut_dimension_has_no_neighbour() {
     let mut list = [0; PLAN_LENGTH];
-    assert_eq!(plan(5, 3, &[4, 9, 9], &[1; 3], &mut list), 0);
+    assert_eq!(plan(5, 3, &[4, 9, 9], &[1; 3], &[], &mut list), 0);
     let mut two = [77; 2];
     assert_eq!((neighbour(&list, 4, 1, 0, &mut two), two), (0, [0, 0]));
     let (mut eight, told) = ([77; 8], [0, 5, 0, 0, 0, 0, 0, 0]);
@@ -376,7 +516,7 @@ fn answers_of_the_first_diagonal_plan() {
 #[test]
 fn diagonal_plans() {
     let mut list = [77; PLAN_LENGTH];
-    assert_eq!(diagonal(3, 2, &[9, 9], &[1, 1], &mut list), 0);
+    assert_eq!(diagonal(3, 2, &[9, 9], &[1, 1], &[], &mut list), 0);
     let mut expected = [0; PLAN_LENGTH];
     expected[..4].copy_from_slice(&[2, 3, 9, 9]);
     expected[WEIGHTS..][..2].copy_from_slice(&[1, 1]);
@@ -385,25 +525,30 @@ fn diagonal_plans() {
     expected[MODULI..][..2].copy_from_slice(&[1, 3]);
     expected[MATRIX + ROW_LENGTH..][..2].copy_from_slice(&[1, 2]);
     expected[KIND] = 1;
+    expected[LEAST..][..2].copy_from_slice(&[1, 1]);
+    assert_eq!(list, expected);
+    assert_eq!(diagonal(3, 2, &[9, 9], &[1, 1], &[3, 2], &mut list), 0);
+    expected[LEAST..][..2].copy_from_slice(&[3, 2]);
     assert_eq!(list, expected);
 
     // Modulo 1 every entry is 0.
-    assert_eq!(diagonal(1, 2, &[1, 1], &[5, 7], &mut list), 0);
+    assert_eq!(diagonal(1, 2, &[1, 1], &[5, 7], &[], &mut list), 0);
     let mut expected = [0; PLAN_LENGTH];
     expected[..4].copy_from_slice(&[2, 1, 1, 1]);
     expected[WEIGHTS..][..2].copy_from_slice(&[5, 7]);
     expected[CUTS..][..2].copy_from_slice(&[1, 1]);
     expected[MODULI..][..2].copy_from_slice(&[1, 1]);
     expected[KIND] = 1;
+    expected[LEAST..][..2].copy_from_slice(&[1, 1]);
     assert_eq!(list, expected);
 
-    assert_eq!(diagonal(9, 3, &[9; 3], &[1, 2, 3], &mut list), 0);
+    assert_eq!(diagonal(9, 3, &[9; 3], &[1, 2, 3], &[], &mut list), 0);
     assert_eq!((list[COST_LOW], list[COST_HIGH]), (12, 0));
-    assert_eq!(diagonal(4096, 3, &[64; 3], &[1; 3], &mut list), 0);
+    assert_eq!(diagonal(4096, 3, &[64; 3], &[1; 3], &[], &mut list), 0);
     assert_eq!((list[COST_LOW], list[COST_HIGH]), (189, 0));
     // 2 * 4095 * 4,294,967,295
     let most = [u32::MAX; 2];
-    assert_eq!(diagonal(4096, 2, &[4096; 2], &most, &mut list), 0);
+    assert_eq!(diagonal(4096, 2, &[4096; 2], &most, &[], &mut list), 0);
     assert_eq!((list[COST_LOW], list[COST_HIGH]), (4_294_959_106, 8189));
 }
 

@@ -1,13 +1,17 @@
 //! Slabs and their elements through the link (document 02, request d): "the first (n modulo b) slabs have one element
-//! more than the others."
+//! more than the others." And "Slabs no thinner than the stencil" (request g).
 
-use link::calls::{plan, slab, slab_of};
-use link::plan_list::{PlanList, CUTS, PLAN_LENGTH};
+use link::calls::{diagonal, plan, slab, slab_of};
+use link::compared::Planner;
+use link::plan_list::{list_of, PlanList, CUTS, DIMENSIONS, LEAST, PLAN_LENGTH};
+use link::questions::{job, job_for_diagonal, made_by_hand};
+use oracle::plan::Job;
+use oracle::random::Random;
 
 /// A plan with b slabs along dimension 1, which has n elements.
 fn cut(n: u32, b: u32) -> PlanList {
     let mut list = [7; PLAN_LENGTH];
-    assert_eq!(plan(b, 2, &[n, b], &[1; 2], &mut list), 0);
+    assert_eq!(plan(b, 2, &[n, b], &[1; 2], &[], &mut list), 0);
     assert_eq!(list[CUTS..CUTS + 2], [b, b]);
     list
 }
@@ -77,4 +81,64 @@ fn the_most_elements_in_the_most_slabs() {
         next = after;
     }
     assert_eq!(next, 1_000_000);
+}
+
+/// The fewest elements that a slab of the dimension at place k has.
+fn thinnest(list: &PlanList, k: usize) -> u32 {
+    let slabs = (0..list[CUTS + k]).map(|s| {
+        let mut answer = [77; 2];
+        assert_eq!(slab(list, k as u32 + 1, s, &mut answer), 0, "{list:?}");
+        answer[1] - answer[0]
+    });
+    slabs.min().expect("a slab")
+}
+
+/// Checks that every slab of these plans is as thick as asked, and that a plan is a 6 just if more is asked than its
+/// slabs have. Often enough, more than 1 is asked of a cut dimension.
+fn check_thicknesses(lists: impl Iterator<Item = PlanList>) {
+    let mut thick = 0;
+    for list in lists {
+        for k in 0..list[DIMENSIONS] as usize {
+            let thinnest = thinnest(&list, k);
+            assert!(thinnest >= list[LEAST + k], "{list:?}");
+            for (thickness, returned) in [(thinnest, 0), (thinnest + 1, 6)] {
+                let mut changed = list;
+                changed[LEAST + k] = thickness;
+                assert_eq!(slab(&changed, 1, 0, &mut [77; 2]), returned, "{changed:?}");
+            }
+            thick += u32::from(list[LEAST + k] > 1 && list[CUTS + k] > 1);
+        }
+    }
+    assert!(thick > 400, "{thick}");
+}
+
+/// The plan of a job by one of the two planning calls, with the thicknesses of the job.
+fn planned(planner: Planner, job: Job) -> Option<PlanList> {
+    let mut list = [77; PLAN_LENGTH];
+    let (extents, weights, least) = (&job.extents, &job.weights, &job.least);
+    if planner(job.p, job.d, extents, weights, least, &mut list) != 0 {
+        return None;
+    }
+    assert_eq!(list[LEAST..][..least.len()], *least);
+    Some(list)
+}
+
+#[test]
+fn slabs_of_plans_are_as_thick_as_asked() {
+    let mut random = Random::new(1);
+    let jobs = (0..3_000).map(|_| job(&mut random));
+    check_thicknesses(jobs.filter_map(|job| planned(plan, job)));
+}
+
+#[test]
+fn slabs_of_diagonal_plans_are_as_thick_as_asked() {
+    let mut random = Random::new(2);
+    let jobs = (0..3_000).map(|_| job_for_diagonal(&mut random));
+    check_thicknesses(jobs.filter_map(|job| planned(diagonal, job)));
+}
+
+#[test]
+fn slabs_of_plans_made_by_hand_are_as_thick_as_asked() {
+    let mut random = Random::new(3);
+    check_thicknesses((0..2_000).map(|_| list_of(&made_by_hand(&mut random))));
 }

@@ -5,7 +5,7 @@ use crate::cuts::elementary;
 use crate::random::Random;
 
 /// The grids and remarks of document 01, the limits of its ranges, jobs that fewer tiles decide
-/// (document 02, f), and jobs of the largest size.
+/// (document 02, f), jobs of the largest size, and jobs with least thicknesses (document 02, g).
 pub fn fixed() -> Vec<Vec<u8>> {
     let lines = [
         "4 3 8 8 8 1 1 1",
@@ -43,6 +43,36 @@ pub fn fixed() -> Vec<Vec<u8>> {
         "4093 5 1 4093 1 4093 1 1 2 3 4 5",
         "3360 5 1000000 1000000 1000000 1000000 1000000 1 10 100 1000 10000",
         "2520 5 1000000 1000000 1000000 1000000 1000000 0 0 1 1 1",
+        "2 2 6 6 1 1 3 3",
+        "2 2 6 5 1 1 3 3",
+        "2 2 6 6 1 1 3",
+        "2 2 6 6 1 1 3 3 3",
+        "2 2 6 6 1 1 0 3",
+        "2 2 6 6 1 1 3 0",
+        "2 2 6 0 1 1 0 3",
+        "2 2 1 9 1 1 3 0",
+        "4 3 8 8 8 1 1 1 1 1 1",
+        "4 3 8 8 8 1 1 1 1 1 5",
+        "4 3 8 8 8 1 1 1 4 4 4",
+        "4 3 8 8 8 1 1 1 5 2 2",
+        "6 3 9 9 9 1 1 1 1 4 1",
+        "36 3 40 40 40 1 1 1 6 6 6",
+        "36 3 40 40 40 1 1 1 7 6 6",
+        "36 3 40 40 40 1 1 1 20 2 2",
+        "1 2 3 3 1 1 4 1",
+        "1 2 3 3 1 1 3 3",
+        "1 2 1000000 1000000 1 1 1000000 1000001",
+        "2 2 8 8 1 1 2147483648 1",
+        "2 2 8 8 1 1 1 4294967295",
+        "4096 2 5000 5000 1 1 1048577 1",
+        "4096 2 1000000 1000000 1 1 244 244",
+        "4096 2 1000000 1000000 1 1 244 245",
+        "4096 5 1000000 1000000 1000000 1000000 1000000 1 1 1 1 1 125000 125000 125000 125000 125000",
+        "4096 5 1000000 1000000 1000000 1000000 1000000 1 1 1 1 1 125000 125001 125000 125000 125000",
+        "1 5 1000000 1000000 1000000 1000000 1000000 4294967295 4294967295 4294967295 4294967295 4294967295 1000000 1000000 1000000 1000000 1000000",
+        "2 5 9 9 9 9 9 1 1 1 1 1 1 1 1 1 1",
+        "2 5 9 9 9 9 9 1 1 1 1 1 1 1 1 1 1 1",
+        "2 6 9 9 9 9 9 9 1 1 1 1 1 1 0 0 0",
     ];
     lines
         .iter()
@@ -51,10 +81,10 @@ pub fn fixed() -> Vec<Vec<u8>> {
         .collect()
 }
 
-/// The longest readable line, of 132 bytes, with one byte more and without: a program that reads
+/// The longest readable line, of 187 bytes, with one byte more and without: a program that reads
 /// no further than the line cannot tell them apart.
 fn longest() -> Vec<Vec<u8>> {
-    let line = line(&[4_294_967_295; 12]);
+    let line = line(&[4_294_967_295; 17]);
     let longer = b" \n0".iter().map(|&byte| [&line[..], &[byte]].concat());
     longer.chain([line.clone()]).collect()
 }
@@ -92,7 +122,7 @@ pub fn texts(bytes: &[u8], up_to: usize) -> Vec<Vec<u8>> {
     all
 }
 
-/// A job line: mostly jobs with an answer or refusal 5, some with refusals 1 to 4.
+/// A job line: mostly jobs with an answer or refusal 5, some with refusals 1 to 4 and 13.
 pub fn job(random: &mut Random) -> Vec<u8> {
     let mut numbers = match random.between(0, 9) {
         0..=4 => small_job(random),
@@ -100,14 +130,22 @@ pub fn job(random: &mut Random) -> Vec<u8> {
         6..=7 => wide_job(random),
         _ => tight_job(random),
     };
-    if random.once_in(8) {
-        spoil(random, &mut numbers);
+    finished(random, &mut numbers)
+}
+
+/// The line of a job, in half of the cases with least thicknesses, now and then spoilt.
+fn finished(random: &mut Random, numbers: &mut Vec<u64>) -> Vec<u8> {
+    if random.once_in(2) {
+        add_thicknesses(random, numbers);
     }
-    line(&numbers)
+    if random.once_in(8) {
+        spoil(random, numbers);
+    }
+    line(numbers)
 }
 
 /// A job line for a diagonal plan (document 02, c): mostly one that suits the layout, often just so or
-/// failing by one, and some with refusals 1 to 4.
+/// failing by one, and some with refusals 1 to 4 and 13.
 pub fn diagonal(random: &mut Random) -> Vec<u8> {
     let d = random.between(2, 3) as usize;
     let side = match (d, random.between(0, 2)) {
@@ -128,11 +166,7 @@ pub fn diagonal(random: &mut Random) -> Vec<u8> {
         _ => (),
     }
     let weights = weights(random, extents.len());
-    let mut numbers = numbers(p, extents, weights);
-    if random.once_in(8) {
-        spoil(random, &mut numbers);
-    }
-    line(&numbers)
+    finished(random, &mut numbers(p, extents, weights))
 }
 
 /// A grid so small that all its cuts can be tried; refusal 5 is common.
@@ -178,7 +212,8 @@ fn tight_job(random: &mut Random) -> Vec<u64> {
     let d = random.between(2, 5) as usize;
     let p = processors(random);
     let any: Vec<u32> = (0..d).map(|_| random.between(0, 99) as u32).collect();
-    let cuts = elementary(p as u32, &vec![1_000_000; d], &any).expect("a roomy grid has cuts");
+    let (roomy, ones) = (vec![1_000_000; d], vec![1; d]);
+    let cuts = elementary(p as u32, &roomy, &ones, &any).expect("a roomy grid has cuts");
     let mut extents: Vec<u64> = cuts.into_iter().map(u64::from).collect();
     let k = random.between(0, d as u64 - 1) as usize;
     match random.between(0, 3) {
@@ -220,16 +255,64 @@ fn numbers(p: u64, extents: Vec<u64>, weights: Vec<u64>) -> Vec<u64> {
     [vec![p, d], extents, weights].concat()
 }
 
-/// Makes one or two of refusals 1 to 4 likely.
+/// Adds d least thicknesses (document 02, g) to a job without: ones, or some that need larger extents, or
+/// some for the extents as they are.
+fn add_thicknesses(random: &mut Random, numbers: &mut Vec<u64>) {
+    let d = numbers[1] as usize;
+    let kind = random.between(0, 7);
+    for k in 2..2 + d {
+        let thickness = match kind {
+            0 => 1,
+            1..=5 => thickened(random, &mut numbers[k]),
+            _ => thickness_for(random, numbers[k]),
+        };
+        numbers.push(thickness);
+    }
+}
+
+/// A least thickness, with the extent made larger so that as many slabs fit as it had elements: just so,
+/// or with elements to spare. Once in a while one element is missing.
+fn thickened(random: &mut Random, extent: &mut u64) -> u64 {
+    let most = 1_000_000 / (*extent).max(1);
+    let high = *random.pick(&[1, 4.min(most), 4.min(most), most]);
+    let thickness = random.between(1, high);
+    *extent *= thickness;
+    match random.between(0, 15) {
+        0 => *extent = extent.saturating_sub(1),
+        1..=7 => *extent = (*extent + random.between(0, thickness - 1)).min(1_000_000),
+        _ => (),
+    }
+    thickness
+}
+
+/// A least thickness, most often a small one, for an extent: also one that leaves the dimension uncut, and
+/// one with which nothing fits.
+fn thickness_for(random: &mut Random, extent: u64) -> u64 {
+    match random.between(0, 31) {
+        0 => extent + 1,
+        1 => *random.pick(&[1_000_001, 2_147_483_648, 4_294_967_295]),
+        2..=3 => extent.max(1),
+        4..=7 => random.between(1, extent.max(1)),
+        _ => random.between(1, 3),
+    }
+}
+
+/// Makes one or two of refusals 1 to 4 and 13 likely.
 fn spoil(random: &mut Random, numbers: &mut Vec<u64>) {
     for _ in 0..random.between(1, 2) {
-        match random.between(0, 4) {
+        match random.between(0, 5) {
             0 => numbers[1] = *random.pick(&[0, 1, 2, 3, 4, 5, 6, 4_294_967_295]),
             1 => numbers[0] = *random.pick(&[0, 4097, 4_294_967_295]),
             2 if numbers.len() > 3 => {
                 numbers.pop();
             }
-            3 if numbers.len() < 12 => numbers.push(random.between(0, 9)),
+            3 if numbers.len() < 17 => numbers.push(random.between(0, 9)),
+            4 if numbers.len() > 3 => {
+                // Among the thicknesses, if there are any.
+                let from_last = random.between(1, (numbers.len() as u64 - 2).div_ceil(3));
+                let at = numbers.len() - from_last as usize;
+                numbers[at] = 0;
+            }
             _ => {
                 let at = random.between(2, (numbers.len() as u64 - 1).max(2)) as usize;
                 if let Some(number) = numbers.get_mut(at) {
@@ -250,7 +333,7 @@ pub fn damaged(random: &mut Random) -> Vec<u8> {
     let mut text = if random.once_in(2) {
         job(random)
     } else {
-        let count = random.between(1, 14);
+        let count = random.between(1, 19);
         let any = |_| {
             let bits = random.between(0, 33);
             random.draw() & ((1 << bits) - 1)
@@ -301,10 +384,15 @@ fn damage(random: &mut Random, text: &mut Vec<u8>) {
 mod tests {
     use super::*;
     use crate::cuts::{all_fitting, by_trying_all, cost, even, tiles};
-    use crate::diagonal::diagonal_job;
+    use crate::plan::{Job, Plan};
     use crate::print::answer;
-    use crate::text::read;
+    use crate::refusal::NO_CUTS;
+    use crate::text;
     use std::collections::BTreeMap;
+
+    fn job_of(line: Vec<u8>) -> Job {
+        text::job(&line).expect("a readable line")
+    }
 
     /// How often each refusal, or a plan, comes out.
     fn outcomes(inputs: impl Iterator<Item = Vec<u8>>) -> BTreeMap<String, usize> {
@@ -325,7 +413,7 @@ mod tests {
     fn jobs_meet_every_job_check() {
         let mut random = Random::new(3);
         let counts = outcomes((0..1500).map(|_| job(&mut random)));
-        for kind in ["1", "2", "3", "4", "5", "plan"] {
+        for kind in ["1", "2", "3", "4", "5", "13", "plan"] {
             assert!(
                 counts.get(kind).is_some_and(|&count| count >= 10),
                 "{kind}: {counts:?}"
@@ -344,14 +432,15 @@ mod tests {
             let job: Vec<u32> = tied_job(&mut random).iter().map(|&n| n as u32).collect();
             let (p, d) = (job[0], job[1] as usize);
             let (extents, weights) = job[2..].split_at(d);
-            let all = all_fitting(extents).filter(|cuts| even(p, cuts));
+            let ones = vec![1; d];
+            let all = all_fitting(extents, &ones).filter(|cuts| even(p, cuts));
             let all: Vec<_> = all.map(|cuts| (cost(&cuts, weights), cuts)).collect();
             let Some((least, first)) = all.iter().min() else {
                 continue;
             };
             let cheapest = all.iter().filter(|(cost, _)| cost == least);
             let most = cheapest.map(|(_, cuts)| tiles(cuts)).max().unwrap();
-            let chosen = by_trying_all(p, extents, weights).expect("cuts");
+            let chosen = by_trying_all(p, extents, &ones, weights).expect("cuts");
             planned += 1;
             not_first += usize::from(chosen != *first);
             not_most += usize::from(tiles(&chosen) != most);
@@ -363,19 +452,90 @@ mod tests {
         );
     }
 
+    /// How thicknesses decide jobs.
+    #[derive(Debug, Default)]
+    struct Decided {
+        /// Planned, with a thickness above 1.
+        planned: usize,
+        /// Of these, some cut dimension has no element to spare.
+        just_fitting: usize,
+        /// Of these, other cuts would be chosen without thicknesses.
+        moved: usize,
+        /// Refused, and planned without thicknesses.
+        refused: usize,
+        /// Of these, planned if one extent had one element more.
+        missing_one: usize,
+    }
+
+    impl Decided {
+        fn note(&mut self, job: &Job) {
+            if job.least.iter().all(|&t| t == 1) {
+                return;
+            }
+            let thin = Job {
+                least: Vec::new(),
+                ..job.clone()
+            };
+            match (job.plan(), thin.plan()) {
+                (Ok(plan), Ok(thin)) => {
+                    self.planned += 1;
+                    self.just_fitting += usize::from(just_fits(&plan));
+                    self.moved += usize::from(plan.cuts != thin.cuts);
+                }
+                (Err(NO_CUTS), Ok(_)) => {
+                    self.refused += 1;
+                    self.missing_one += usize::from(one_more_fits(job));
+                }
+                _ => (),
+            }
+        }
+    }
+
+    fn just_fits(plan: &Plan) -> bool {
+        (0..plan.dimensions()).any(|k| {
+            let (b, t) = (plan.cuts[k], plan.least[k]);
+            b > 1 && t > 1 && b * t == plan.extents[k]
+        })
+    }
+
+    fn one_more_fits(job: &Job) -> bool {
+        (0..job.extents.len()).any(|k| {
+            let mut larger = job.clone();
+            larger.extents[k] += 1;
+            larger.plan().is_ok()
+        })
+    }
+
+    #[test]
+    fn thicknesses_decide_jobs() {
+        let mut random = Random::new(14);
+        let mut decided = Decided::default();
+        for _ in 0..1500 {
+            decided.note(&job_of(job(&mut random)));
+        }
+        assert!(decided.planned >= 200, "{decided:?}");
+        assert!(decided.just_fitting >= 50, "{decided:?}");
+        assert!(decided.moved >= 50, "{decided:?}");
+        assert!(decided.refused >= 100, "{decided:?}");
+        assert!(decided.missing_one >= 10, "{decided:?}");
+    }
+
+    #[test]
+    fn the_longest_lines() {
+        let lengths: Vec<usize> = longest().iter().map(Vec::len).collect();
+        assert_eq!(lengths, [188, 188, 188, 187]);
+    }
+
     #[test]
     fn jobs_for_diagonal_plans_meet_every_check() {
         let mut random = Random::new(10);
         let mut counts = BTreeMap::new();
         for _ in 0..3000 {
-            let numbers = read(&diagonal(&mut random)).expect("a readable line");
-            let (p, d, rest) = (numbers[0], numbers[1], &numbers[2..]);
-            let (extents, weights) = rest.split_at(rest.len() / 2);
-            let answer = diagonal_job(p, d, extents, weights);
+            let answer = job_of(diagonal(&mut random)).diagonal();
             let number = answer.map_or_else(|refusal| refusal.number, |_| 0);
             *counts.entry(number).or_insert(0) += 1;
         }
-        assert!(counts.keys().eq(&[0, 1, 2, 3, 4, 5, 12]), "{counts:?}");
+        assert!(counts.keys().eq(&[0, 1, 2, 3, 4, 5, 12, 13]), "{counts:?}");
         assert!(counts.values().all(|&count| count >= 10), "{counts:?}");
         assert!(counts[&0] >= 1000 && counts[&12] >= 100, "{counts:?}");
     }

@@ -117,11 +117,11 @@ mod tests {
             (12, vec![8, 8, 8, 8]),
         ] {
             let ones = vec![1; extents.len()];
-            check_stages(&plan_job(p, extents.len() as u32, &extents, &ones).unwrap());
+            check_stages(&plan_job(p, extents.len() as u32, &extents, &ones, &[]).unwrap());
         }
-        check_stages(&diagonal_job(9, 3, &[9; 3], &[1; 3]).unwrap());
+        check_stages(&diagonal_job(9, 3, &[9; 3], &[1; 3], &[]).unwrap());
         // Owners by another matrix: processors without a tile, and with neighbouring tiles.
-        let mut plan = plan_job(6, 3, &[9; 3], &[1; 3]).unwrap();
+        let mut plan = plan_job(6, 3, &[9; 3], &[1; 3], &[]).unwrap();
         for row in [[2, 1, 0, 0, 0], [5, 0, 3, 0, 0], [0; 5]] {
             plan.matrix[2] = row;
             check_stages(&plan);
@@ -130,7 +130,7 @@ mod tests {
 
     #[test]
     fn stages_of_the_first_example() {
-        let plan = plan_job(4, 3, &[8; 3], &[1; 3]).unwrap();
+        let plan = plan_job(4, 3, &[8; 3], &[1; 3], &[]).unwrap();
         let (mut heads, mut nexts) = ([9; 4], [7; 8]);
         let mut stages = Vec::new();
         chains_in_stages(&plan, &mut heads, &mut nexts, |tile, heads, nexts| {
@@ -151,7 +151,7 @@ mod tests {
 
     #[test]
     fn refused_lists_keep_their_contents() {
-        let plan = plan_job(4, 3, &[8; 3], &[1; 3]).unwrap();
+        let plan = plan_job(4, 3, &[8; 3], &[1; 3], &[]).unwrap();
         let (mut heads, mut nexts) = ([9; 4], [9; 7]);
         assert_eq!(chains(&plan, &mut heads, &mut nexts), Err(refusal::LIST));
         assert_eq!((heads, nexts), ([9; 4], [9; 7]));
@@ -160,7 +160,7 @@ mod tests {
 
     #[test]
     fn a_processor_without_tiles_has_head_zero() {
-        let mut plan = plan_job(4, 2, &[8; 2], &[1; 2]).unwrap();
+        let mut plan = plan_job(4, 2, &[8; 2], &[1; 2], &[]).unwrap();
         plan.matrix[1] = [0; 5];
         let (mut heads, mut nexts) = ([9; 4], [9; 16]);
         chains(&plan, &mut heads, &mut nexts).unwrap();

@@ -1,19 +1,35 @@
 //! Diagonal plans (document 02, request c; source document 001, section 2).
 
 use crate::cuts;
-use crate::plan::{check_counts, check_lists, padded, padded_rows, Plan, DIAGONAL};
+use crate::plan::{
+    check_counts, check_lists, padded, padded_rows, thicknesses, Job, Plan, DIAGONAL,
+};
 use crate::refusal::{self, Refusal};
+
+impl Job {
+    pub fn diagonal(&self) -> Result<Plan, Refusal> {
+        diagonal_job(self.p, self.d, &self.extents, &self.weights, &self.least)
+    }
+}
 
 /// A job becomes a diagonal plan: "For d = 2 there are p cuts each way and the owner is (i1 - i2)
 /// modulo p. For d = 3 and p = s*s there are s cuts each way, and the owner is
-/// ((i1 - i3) modulo s)*s + ((i2 - i3) modulo s)." Refusals 1, 2, 12, 3, 4 and 5, in this order: "12,
-/// p or d doesn't suit the layout, after 2 and before 3; a cut above its extent stays a 5".
-pub fn diagonal_job(p: u32, d: u32, extents: &[u32], weights: &[u32]) -> Result<Plan, Refusal> {
+/// ((i1 - i3) modulo s)*s + ((i2 - i3) modulo s)." Refusals 1, 2, 12, 3, 4, 13 and 5, in this order:
+/// "12, p or d doesn't suit the layout, after 2 and before 3; a cut above its extent stays a 5". Cuts
+/// fit as they do "for the planner, for diagonal plans and for any rival" (document 02, g).
+pub fn diagonal_job(
+    p: u32,
+    d: u32,
+    extents: &[u32],
+    weights: &[u32],
+    least: &[u32],
+) -> Result<Plan, Refusal> {
     check_counts(p, d)?;
     let side = cuts_each_way(p, d).ok_or(refusal::LAYOUT)?;
-    check_lists(d, extents, weights)?;
+    check_lists(d, extents, weights, least)?;
+    let least = thicknesses(d, least);
     let chosen = vec![side; d as usize];
-    if !cuts::fit(&chosen, extents) {
+    if !cuts::fit(&chosen, extents, &least) {
         return Err(refusal::NO_CUTS);
     }
     let moduli = moduli(d, side);
@@ -28,6 +44,7 @@ pub fn diagonal_job(p: u32, d: u32, extents: &[u32], weights: &[u32]) -> Result<
         moduli: padded(&moduli),
         matrix: padded_rows(&rows),
         kind: DIAGONAL,
+        least: padded(&least),
     })
 }
 
@@ -67,13 +84,18 @@ mod tests {
     use crate::cuts::even;
     use crate::neighbours::neighbour;
     use crate::owners::owner;
-    use crate::plan::plan_job;
     use crate::random::Random;
     use crate::text;
     use crate::tiles::{position_of, step_from};
 
     fn grid(p: u32, extents: &[u32], weights: &[u32]) -> Result<Plan, Refusal> {
-        diagonal_job(p, extents.len() as u32, extents, weights)
+        diagonal_job(p, extents.len() as u32, extents, weights, &[])
+    }
+
+    /// A grid with weights of 1 and these least thicknesses.
+    fn thick(p: u32, extents: &[u32], least: &[u32]) -> Result<Plan, Refusal> {
+        let weights = vec![1; extents.len()];
+        diagonal_job(p, extents.len() as u32, extents, &weights, least)
     }
 
     /// The plan with the fewest elements of d dimensions and this many cuts each way.
@@ -106,9 +128,15 @@ mod tests {
             moduli: [1, 3, 0, 0, 0],
             matrix: [[0; 5], [1, 2, 0, 0, 0], [0; 5], [0; 5], [0; 5]],
             kind: 1,
+            least: [1, 1, 0, 0, 0],
         };
         assert_eq!(owners(&plan), [0, 2, 1, 1, 0, 2, 2, 1, 0]);
-        assert_eq!(grid(3, &[9, 9], &[1, 1]), Ok(plan));
+        assert_eq!(grid(3, &[9, 9], &[1, 1]).as_ref(), Ok(&plan));
+        let thicker = Plan {
+            least: [2, 3, 0, 0, 0],
+            ..plan
+        };
+        assert_eq!(thick(3, &[9, 9], &[2, 3]), Ok(thicker));
     }
 
     #[test]
@@ -123,6 +151,7 @@ mod tests {
             moduli: [1, 2, 2, 0, 0],
             matrix: [[0; 5], [1, 0, 1, 0, 0], [0, 1, 1, 0, 0], [0; 5], [0; 5]],
             kind: 1,
+            least: [1, 1, 1, 0, 0],
         };
         assert_eq!(owners(&plan), [0, 3, 1, 2, 2, 1, 3, 0]);
         assert_eq!(grid(4, &[8; 3], &[1; 3]), Ok(plan));
@@ -173,15 +202,22 @@ mod tests {
     #[test]
     fn job_checks_in_order() {
         // 1 before 2 before 12 before 3 before 4 before 5.
-        assert_eq!(diagonal_job(0, 6, &[], &[]), Err(refusal::DIMENSIONS));
-        assert_eq!(diagonal_job(5, 1, &[], &[]), Err(refusal::DIMENSIONS));
-        assert_eq!(diagonal_job(0, 4, &[], &[]), Err(refusal::PROCESSORS));
-        assert_eq!(diagonal_job(4097, 3, &[0], &[]), Err(refusal::PROCESSORS));
-        assert_eq!(diagonal_job(5, 3, &[0, 0], &[]), Err(refusal::LAYOUT));
-        assert_eq!(diagonal_job(16, 4, &[0], &[1; 9]), Err(refusal::LAYOUT));
-        assert_eq!(diagonal_job(4, 3, &[0; 2], &[1; 3]), Err(refusal::LENGTHS));
-        assert_eq!(diagonal_job(4, 3, &[0; 3], &[1; 4]), Err(refusal::LENGTHS));
-        assert_eq!(diagonal_job(7, 2, &[0; 3], &[1; 2]), Err(refusal::LENGTHS));
+        let job = |p, d, extents: &[u32], weights: &[u32]| {
+            let refused = diagonal_job(p, d, extents, weights, &[]);
+            let zeros = diagonal_job(p, d, extents, weights, &vec![0; d as usize]);
+            assert_eq!(zeros, refused);
+            refused
+        };
+        assert_eq!(job(0, 6, &[], &[]), Err(refusal::DIMENSIONS));
+        assert_eq!(job(5, 1, &[], &[]), Err(refusal::DIMENSIONS));
+        assert_eq!(job(0, 4, &[], &[]), Err(refusal::PROCESSORS));
+        assert_eq!(job(4097, 3, &[0], &[]), Err(refusal::PROCESSORS));
+        assert_eq!(job(5, 3, &[0, 0], &[]), Err(refusal::LAYOUT));
+        assert_eq!(job(16, 4, &[0], &[1; 9]), Err(refusal::LAYOUT));
+        assert_eq!(job(4, 3, &[0; 2], &[1; 3]), Err(refusal::LENGTHS));
+        assert_eq!(job(4, 3, &[0; 3], &[1; 4]), Err(refusal::LENGTHS));
+        assert_eq!(job(7, 2, &[0; 3], &[1; 2]), Err(refusal::LENGTHS));
+        assert_eq!(job(8, 2, &[9, 0], &[1; 2]), Err(Refusal::at(4, 2)));
         assert_eq!(grid(4, &[1, 0, 0], &[1; 3]), Err(Refusal::at(4, 2)));
         assert_eq!(grid(8, &[9, 0], &[1; 2]), Err(Refusal::at(4, 2)));
         assert_eq!(grid(8, &[7, 1_000_001], &[1; 2]), Err(Refusal::at(4, 2)));
@@ -190,6 +226,41 @@ mod tests {
         assert_eq!(grid(6, &[9; 3], &[1; 3]), Err(refusal::LAYOUT));
         assert_eq!(grid(4, &[8; 4], &[1; 4]), Err(refusal::LAYOUT));
         assert_eq!(grid(1, &[1; 5], &[1; 5]), Err(refusal::LAYOUT));
+    }
+
+    /// "13, a thickness of 0 in a job [...] after 4 and before 5; refusal 3 covers a thickness list that
+    /// is neither empty nor d long", and 12 comes before 3.
+    #[test]
+    fn checks_of_thicknesses() {
+        for length in [1, 2, 4, 5, 6] {
+            let list = vec![0; length];
+            assert_eq!(thick(5, &[0; 3], &list), Err(refusal::LAYOUT));
+            assert_eq!(thick(4, &[0; 3], &list), Err(refusal::LENGTHS));
+        }
+        assert_eq!(thick(4, &[0, 8, 8], &[0; 3]), Err(Refusal::at(4, 1)));
+        assert_eq!(thick(4, &[8; 3], &[0; 3]), Err(Refusal::at(13, 1)));
+        assert_eq!(thick(4, &[8; 3], &[1, 1, 0]), Err(Refusal::at(13, 3)));
+        assert_eq!(thick(4, &[8, 1, 8], &[9, 0, 1]), Err(Refusal::at(13, 2)));
+        assert_eq!(thick(4, &[8; 3], &[1, 1, 5]), Err(refusal::NO_CUTS));
+        assert_eq!(thick(1, &[8; 2], &[9, 1]), Err(refusal::NO_CUTS));
+        assert_eq!(thick(2, &[8; 2], &[1, 1 << 31]), Err(refusal::NO_CUTS));
+        assert_eq!(
+            thick(4096, &[5000; 2], &[1_048_577, 1]),
+            Err(refusal::NO_CUTS)
+        );
+        assert_eq!(thick(4, &[8; 3], &[4; 3]).map(|plan| plan.cost), Ok(3));
+    }
+
+    /// "A least thickness for each dimension, 1 where none is given."
+    #[test]
+    fn an_empty_list_is_a_list_of_ones() {
+        for (d, sides) in [(2, 1..=64), (3, 1..=64)] {
+            for plan in sides.map(|side| smallest(d, side)) {
+                let ones = vec![1; d];
+                assert_eq!(plan.least, padded(&ones));
+                assert_eq!(thick(plan.p, &plan.extents[..d], &ones), Ok(plan));
+            }
+        }
     }
 
     /// "For d = 3 and p = s*s": of all counts just the squares.
@@ -218,6 +289,17 @@ mod tests {
                     let mut extents = vec![side; d];
                     extents[k] = side - 1;
                     let refused = grid(plan.p, &extents, &vec![1; d]);
+                    assert_eq!(refused, Err(refusal::NO_CUTS));
+                }
+                // Likewise with slabs of 1, 2 and 3 elements and no fewer.
+                let least = [1, 2, 3];
+                let extents: Vec<u32> = least[..d].iter().map(|t| t * side).collect();
+                let plan = thick(plan.p, &extents, &least[..d]).unwrap();
+                assert_eq!(plan.check_shape(), Ok(()));
+                for k in 1..d {
+                    let mut extents = extents.clone();
+                    extents[k] -= 1;
+                    let refused = thick(plan.p, &extents, &least[..d]);
                     assert_eq!(refused, Err(refusal::NO_CUTS));
                 }
             }
@@ -314,16 +396,15 @@ mod tests {
         let mut random = Random::new(9);
         let (mut equal, mut dearer) = (0, 0);
         for _ in 0..10_000 {
-            let numbers = text::read(&cases::diagonal(&mut random)).unwrap();
-            let (p, d, rest) = (numbers[0], numbers[1], &numbers[2..]);
-            let (extents, weights) = rest.split_at(rest.len() / 2);
-            let Ok(diagonal) = diagonal_job(p, d, extents, weights) else {
+            let job = text::job(&cases::diagonal(&mut random)).expect("a readable line");
+            let Ok(diagonal) = job.diagonal() else {
                 continue;
             };
-            let planned = plan_job(p, d, extents, weights).expect("the planner accepts");
+            let planned = job.plan().expect("the planner accepts");
             assert_eq!((planned.kind, diagonal.kind), (0, 1));
+            assert_eq!(planned.least, diagonal.least);
             assert!(planned.cost <= diagonal.cost, "{diagonal:?}");
-            match d {
+            match job.d {
                 // No other even cuts of two dimensions are as small.
                 2 => assert_eq!(planned.cuts, diagonal.cuts),
                 _ if planned.cost == diagonal.cost => equal += 1,

@@ -1,11 +1,13 @@
 //! Checks on a printed plan that do not ask how it was made.
 //!
 //! The plan is read back from the printed lines and then looked at tile by tile: do the cuts fit, are
-//! they even, is the cost theirs; does every processor own tiles / (bk * p) tiles of every slab; do
-//! tiles with a common face have different owners; is the owner across a face the printed neighbour.
+//! they even, is the cost theirs; is every slab as thick as asked; does every processor own
+//! tiles / (bk * p) tiles of every slab; do tiles with a common face have different owners; is the owner
+//! across a face the printed neighbour.
 
 use crate::cuts::{cost, even, fit};
 use crate::random::Random;
+use crate::slabs::thickness_of;
 
 /// What the lines of a printed plan say.
 #[derive(Debug)]
@@ -85,10 +87,11 @@ fn numbers_of(words: &[&str], count: usize) -> Result<Vec<u64>, String> {
 /// Up to this many tiles all of them are looked at; of a larger grid only some.
 const ALL_TILES_UP_TO: u64 = 30_000;
 
-/// Looks at a printed plan for a job, or says what is wrong with it.
+/// Looks at a printed plan for a job with d least thicknesses, or says what is wrong with it.
 pub fn inspect(
     p: u32,
     extents: &[u32],
+    least: &[u32],
     weights: &[u32],
     text: &str,
     random: &mut Random,
@@ -97,8 +100,12 @@ pub fn inspect(
     let ensure = |holds: bool, what: &str| holds.then_some(()).ok_or(what.to_string());
     ensure(plan.p == u64::from(p), "another p")?;
     ensure(plan.d == extents.len(), "another d")?;
-    ensure(fit(&plan.cuts, extents), "cuts do not fit")?;
+    ensure(fit(&plan.cuts, extents, least), "cuts do not fit")?;
     ensure(even(p, &plan.cuts), "cuts are not even")?;
+    for (k, &b) in plan.cuts.iter().enumerate() {
+        let thick = |slab| thickness_of(extents[k], b, slab) >= least[k];
+        ensure((0..b).all(thick), "a slab is thinner than asked")?;
+    }
     ensure(
         plan.cost == cost(&plan.cuts, weights),
         "the cost is not that of the cuts",
@@ -232,12 +239,26 @@ mod tests {
     use crate::print::{answer, printed};
 
     fn look(text: &str) -> Result<(), String> {
-        inspect(8, &[9; 3], &[1; 3], text, &mut Random::new(1))
+        inspect(8, &[9; 3], &[1; 3], &[1; 3], text, &mut Random::new(1))
     }
 
     #[test]
     fn a_right_plan_passes() {
         assert_eq!(look(&answer(b"8 3 9 9 9 1 1 1\n")), Ok(()));
+    }
+
+    /// "Slabs no thinner than the stencil" (document 02, g).
+    #[test]
+    fn slabs_as_thick_as_asked_pass() {
+        let text = answer(b"8 3 9 9 9 1 1 1 4 2 2\n");
+        let look = |least: &[u32]| {
+            let (extents, weights) = ([9; 3], [1; 3]);
+            inspect(8, &extents, least, &weights, &text, &mut Random::new(1))
+        };
+        assert_eq!(look(&[4, 2, 2]), Ok(()));
+        for least in [[5, 2, 2], [4, 3, 2], [4, 2, 3], [1, 1, u32::MAX]] {
+            assert!(look(&least).is_err(), "{least:?}");
+        }
     }
 
     #[test]
@@ -246,10 +267,10 @@ mod tests {
         for (d, sides) in [(2, 1..=170), (3, 1..=30)] {
             for side in sides {
                 let p = u32::pow(side, d - 1);
-                let (extents, weights) = ([side + side % 3; 3], [5, 0, 7]);
-                let (extents, weights) = (&extents[..d as usize], &weights[..d as usize]);
-                let plan = diagonal_job(p, d, extents, weights).unwrap();
-                let looked = inspect(p, extents, weights, &printed(&plan), &mut random);
+                let lists = [[2 * side + side % 3; 3], [1, 2, 1], [5, 0, 7]];
+                let [extents, least, weights] = lists.each_ref().map(|list| &list[..d as usize]);
+                let plan = diagonal_job(p, d, extents, weights, least).unwrap();
+                let looked = inspect(p, extents, least, weights, &printed(&plan), &mut random);
                 assert_eq!(looked, Ok(()), "{plan:?}");
             }
         }
@@ -284,7 +305,7 @@ mod tests {
     fn the_first_test_on_the_row_gives_a_whole_slab_away() {
         // As printed in 001, figure 3: p = 2 with cuts 2 2 and row 2 equal to 0 1.
         let text = "plan 2 2\ncuts 2 2\ncost 0\nmod 1 2\nrow 0 0\nrow 0 1\nup 1 0 1\nup 2 1 0\n";
-        let looked = inspect(2, &[2, 2], &[0, 0], text, &mut Random::new(1));
+        let looked = inspect(2, &[2, 2], &[1, 1], &[0, 0], text, &mut Random::new(1));
         assert!(looked.is_err());
     }
 }

@@ -41,7 +41,7 @@ mod tests {
 
     #[test]
     fn up_and_down_are_inverse() {
-        let plan = plan_job(360, 4, &[99; 4], &[1, 2, 3, 4]).unwrap();
+        let plan = plan_job(360, 4, &[99; 4], &[1, 2, 3, 4], &[]).unwrap();
         for q in 0..plan.p {
             for k in (0..4).filter(|&k| plan.cuts[k] > 1) {
                 let above = neighbour_of(&plan, q, k, true).unwrap();
@@ -52,7 +52,7 @@ mod tests {
 
     #[test]
     fn refusals_in_order() {
-        let mut plan = plan_job(6, 3, &[9; 3], &[1, 1, 100]).unwrap();
+        let mut plan = plan_job(6, 3, &[9; 3], &[1, 1, 100], &[]).unwrap();
         assert_eq!(neighbour(&plan, 0, 1, true), Ok(Some(1)));
         assert_eq!(neighbour(&plan, 0, 1, false), Ok(Some(5)));
         assert_eq!(neighbour(&plan, 0, 3, true), Ok(None));

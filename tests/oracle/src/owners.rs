@@ -52,7 +52,7 @@ mod tests {
 
     #[test]
     fn numbers_and_coordinates_are_inverse() {
-        let plan = plan_job(360, 4, &[99; 4], &[1, 2, 3, 4]).unwrap();
+        let plan = plan_job(360, 4, &[99; 4], &[1, 2, 3, 4], &[]).unwrap();
         for q in 0..plan.p {
             assert_eq!(number_of(&plan, &coordinates_of(&plan, q)), q);
         }
@@ -60,7 +60,7 @@ mod tests {
 
     #[test]
     fn refusals_in_order() {
-        let mut plan = plan_job(4, 3, &[8; 3], &[1; 3]).unwrap();
+        let mut plan = plan_job(4, 3, &[8; 3], &[1; 3], &[]).unwrap();
         assert_eq!(owner(&plan, &[1, 1, 1]), Ok(0));
         assert_eq!(owner(&plan, &[0, 1]), Err(refusal::RANGE));
         assert_eq!(owner(&plan, &[0, 1, 0, 0]), Err(refusal::RANGE));

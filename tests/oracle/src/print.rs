@@ -3,7 +3,7 @@
 use std::fmt::Write;
 
 use crate::neighbours::neighbour_of;
-use crate::plan::{plan_job, Plan};
+use crate::plan::Plan;
 use crate::refusal::Refusal;
 use crate::text;
 
@@ -20,13 +20,9 @@ fn refused(refusal: Refusal) -> String {
     format!("refused {} {}\n", refusal.number, refusal.place)
 }
 
-/// "After the text come the job checks; 3 applies if the numbers after d are not 2*d many": cut in
-/// the middle, they are then not two lists of d each.
+/// "After the text come the job checks."
 pub fn plan_of(input: &[u8]) -> Result<Plan, Refusal> {
-    let numbers = text::read(input)?;
-    let (p, d, rest) = (numbers[0], numbers[1], &numbers[2..]);
-    let (extents, weights) = rest.split_at(rest.len() / 2);
-    plan_job(p, d, extents, weights)
+    text::job(input)?.plan()
 }
 
 /// What is printed for a plan, which may be out of shape.
@@ -38,7 +34,8 @@ pub fn printed(plan: &Plan) -> String {
 }
 
 /// "The lines are: p and d; cuts; cost; moduli; d matrix rows; and for each dimension its number and
-/// the upward neighbours of processors 0 to p-1, or `none` in their stead." None names the kind.
+/// the upward neighbours of processors 0 to p-1, or `none` in their stead." None names the kind or the
+/// least thicknesses.
 fn lines(plan: &Plan) -> String {
     let d = plan.dimensions();
     let mut out = String::new();
@@ -73,6 +70,7 @@ fn line(out: &mut String, word: &str, numbers: &[u32]) {
 mod tests {
     use super::*;
     use crate::diagonal::diagonal_job;
+    use crate::plan::plan_job;
 
     #[test]
     fn the_example() {
@@ -87,18 +85,18 @@ mod tests {
         let expected = "plan 1 2\ncuts 1 1\ncost 0\nmod 1 1\nrow 0 0\nrow 0 0\n\
             up 1 none\nup 2 none\n";
         assert_eq!(answer(b"1 2 1 1 5 7\n"), expected);
-        let diagonal = diagonal_job(1, 2, &[1, 1], &[5, 7]).unwrap();
+        let diagonal = diagonal_job(1, 2, &[1, 1], &[5, 7], &[]).unwrap();
         assert_eq!(printed(&diagonal), expected);
     }
 
     #[test]
     fn diagonal_plans() {
-        let plan = diagonal_job(4, 3, &[8; 3], &[1; 3]).unwrap();
+        let plan = diagonal_job(4, 3, &[8; 3], &[1; 3], &[]).unwrap();
         let expected = "plan 4 3\ncuts 2 2 2\ncost 3\nmod 1 2 2\n\
             row 0 0 0\nrow 1 0 1\nrow 0 1 1\n\
             up 1 2 3 0 1\nup 2 1 0 3 2\nup 3 3 2 1 0\n";
         assert_eq!(printed(&plan), expected);
-        let plan = diagonal_job(3, 2, &[9; 2], &[1; 2]).unwrap();
+        let plan = diagonal_job(3, 2, &[9; 2], &[1; 2], &[]).unwrap();
         let expected = "plan 3 2\ncuts 3 3\ncost 4\nmod 1 3\nrow 0 0\nrow 1 2\n\
             up 1 1 2 0\nup 2 2 0 1\n";
         assert_eq!(printed(&plan), expected);
@@ -107,7 +105,7 @@ mod tests {
     /// "The printed plan" has no line for the kind, and "a kind above 1 is a 6".
     #[test]
     fn the_kind_is_not_printed() {
-        let mut plan = plan_job(4, 3, &[8; 3], &[1; 3]).unwrap();
+        let mut plan = plan_job(4, 3, &[8; 3], &[1; 3], &[]).unwrap();
         let lines = printed(&plan);
         plan.kind = 1;
         assert_eq!(printed(&plan), lines);
@@ -115,6 +113,29 @@ mod tests {
             plan.kind = kind;
             assert_eq!(printed(&plan), "refused 6 0\n");
         }
+    }
+
+    /// "With p = 2 and thickness 3 both ways, 6 6 is cut 2 2 and 6 5 gives 5."
+    #[test]
+    fn thicknesses() {
+        let expected = "plan 2 2\ncuts 2 2\ncost 2\nmod 1 2\nrow 0 0\nrow 1 1\n\
+            up 1 1 0\nup 2 1 0\n";
+        assert_eq!(answer(b"2 2 6 6 1 1 3 3\n"), expected);
+        assert_eq!(answer(b"2 2 6 6 1 1\n"), expected);
+        assert_eq!(answer(b"2 2 6 5 1 1 3 3\n"), "refused 5 0\n");
+        let figures: [(&[u8], &str); 6] = [
+            (b"4 3 8 8 8 1 1 1 1 1 5\n", "cuts 4 4 1\ncost 6\n"),
+            (b"4 3 8 8 8 1 1 1 4 4 4\n", "cuts 2 2 2\ncost 3\n"),
+            (b"4 3 8 8 8 1 1 1 5 2 2\n", "cuts 1 4 4\ncost 6\n"),
+            (b"6 3 9 9 9 1 1 1 1 4 1\n", "cuts 3 2 6\ncost 8\n"),
+            (b"36 3 40 40 40 1 1 1 6 6 6\n", "cuts 6 6 6\ncost 15\n"),
+            (b"36 3 40 40 40 1 1 1 20 2 2\n", "cuts 2 18 18\ncost 35\n"),
+        ];
+        for (line, lines) in figures {
+            assert!(answer(line).contains(lines), "{lines}");
+        }
+        assert_eq!(answer(b"36 3 40 40 40 1 1 1 7 6 6\n"), "refused 5 0\n");
+        assert_eq!(answer(b"1 2 3 3 1 1 4 1\n"), "refused 5 0\n");
     }
 
     #[test]
@@ -126,5 +147,20 @@ mod tests {
         assert_eq!(answer(b"4 3 8 8 8 1 1\n"), "refused 3 0\n");
         assert_eq!(answer(b"4 2 8 0 1 1\n"), "refused 4 2\n");
         assert_eq!(answer(b"2 2 1 9 1 1\n"), "refused 5 0\n");
+        // "Refusal 3 means neither 2*d nor 3*d after d."
+        assert_eq!(answer(b"2 2 6 6 1 1 3\n"), "refused 3 0\n");
+        assert_eq!(answer(b"2 2 6 6 1 1 3 3 3\n"), "refused 3 0\n");
+        assert_eq!(answer(b"4 3 8 8 8 1 1 1 1 1\n"), "refused 3 0\n");
+        // "13 [...] after 4 and before 5."
+        assert_eq!(answer(b"2 2 6 0 1 1 0 3\n"), "refused 4 2\n");
+        assert_eq!(answer(b"2 2 6 6 1 1 0 3\n"), "refused 13 1\n");
+        assert_eq!(answer(b"2 2 1 9 1 1 3 0\n"), "refused 13 2\n");
+        // Seventeen numbers are read, and no more.
+        let seventeen = answer(b"2 5 9 9 9 9 9 1 1 1 1 1 1 1 1 1 1\n");
+        assert!(seventeen.starts_with("plan 2 5\n"));
+        assert_eq!(
+            answer(b"2 5 9 9 9 9 9 1 1 1 1 1 1 1 1 1 1 1\n"),
+            "refused 10 34\n"
+        );
     }
 }

@@ -23,13 +23,15 @@ impl Refusal {
 pub const DIMENSIONS: Refusal = Refusal::plain(1);
 /// p not 1..4,096.
 pub const PROCESSORS: Refusal = Refusal::plain(2);
-/// Extents or weights not d many.
+/// Extents or weights not d many; it also "covers a thickness list that is neither empty nor d long"
+/// (document 02, g).
 pub const LENGTHS: Refusal = Refusal::plain(3);
 /// An extent out of range; the place is the first such dimension.
 pub const EXTENT: u32 = 4;
 /// No even, fitting cuts; for a diagonal plan "a cut above its extent stays a 5" (document 02, c).
 pub const NO_CUTS: Refusal = Refusal::plain(5);
-/// The plan is out of shape; also "a kind above 1 is a 6" (document 02, c).
+/// The plan is out of shape; also "a kind above 1 is a 6" (document 02, c), and "A plan that breaks the
+/// rule or holds a thickness of 0 is a 6" (document 02, g).
 pub const SHAPE: Refusal = Refusal::plain(6);
 /// Dimension not 1..d.
 pub const DIMENSION: Refusal = Refusal::plain(7);
@@ -44,6 +46,9 @@ pub const TEXT: u32 = 10;
 pub const OTHER_EXTENTS: Refusal = Refusal::plain(11);
 /// "12, p or d doesn't suit the layout, after 2 and before 3" (document 02, c).
 pub const LAYOUT: Refusal = Refusal::plain(12);
+/// "13, a thickness of 0 in a job, with the first such dimension as place, after 4 and before 5"
+/// (document 02, g).
+pub const THICKNESS: u32 = 13;
 
 /// "d: 2 to 5."
 pub fn dimensions_in_range(d: u32) -> bool {

@@ -68,7 +68,7 @@ mod tests {
 
     #[test]
     fn numbers_and_positions_are_inverse() {
-        let plan = plan_job(6, 3, &[9; 3], &[1; 3]).unwrap();
+        let plan = plan_job(6, 3, &[9; 3], &[1; 3], &[]).unwrap();
         let mut expected = 1;
         for i in 0..2 {
             for j in 0..3 {
@@ -83,7 +83,7 @@ mod tests {
 
     #[test]
     fn steps_end_at_the_edge() {
-        let plan = plan_job(6, 3, &[9; 3], &[1; 3]).unwrap();
+        let plan = plan_job(6, 3, &[9; 3], &[1; 3], &[]).unwrap();
         assert_eq!(step(&plan, &[0, 1, 5], 2, true), Ok(Some(vec![0, 2, 5])));
         assert_eq!(step(&plan, &[0, 1, 5], 2, false), Ok(Some(vec![0, 0, 5])));
         assert_eq!(step(&plan, &[0, 1, 5], 3, true), Ok(None));
@@ -92,7 +92,7 @@ mod tests {
 
     #[test]
     fn refusals_in_order() {
-        let mut plan = plan_job(6, 3, &[9; 3], &[1; 3]).unwrap();
+        let mut plan = plan_job(6, 3, &[9; 3], &[1; 3], &[]).unwrap();
         assert_eq!(number(&plan, &[0, 3, 0]), Err(refusal::RANGE));
         assert_eq!(position(&plan, 0), Err(refusal::RANGE));
         assert_eq!(position(&plan, 37), Err(refusal::RANGE));

@@ -130,7 +130,8 @@ mod tests {
 
     /// The plan of a grid whose weights are 1.
     fn grid(p: u32, extents: &[u32]) -> Plan {
-        plan_job(p, extents.len() as u32, extents, &vec![1; extents.len()]).unwrap()
+        let ones = vec![1; extents.len()];
+        plan_job(p, extents.len() as u32, extents, &ones, &[]).unwrap()
     }
 
     /// Six processors on 9 by 9, made by hand with cuts 3 2, moduli 1 6 and row 2 equal to 2 3.
@@ -146,9 +147,9 @@ mod tests {
     /// Diagonal plans whose slabs have unequal thickness.
     fn diagonals() -> [Plan; 3] {
         [
-            diagonal_job(5, 2, &[7, 12], &[1; 2]).unwrap(),
-            diagonal_job(4, 3, &[5, 7, 9], &[1; 3]).unwrap(),
-            diagonal_job(9, 3, &[8, 4, 7], &[1; 3]).unwrap(),
+            diagonal_job(5, 2, &[7, 12], &[1; 2], &[]).unwrap(),
+            diagonal_job(4, 3, &[5, 7, 9], &[1; 3], &[]).unwrap(),
+            diagonal_job(9, 3, &[8, 4, 7], &[1; 3], &[]).unwrap(),
         ]
     }
 

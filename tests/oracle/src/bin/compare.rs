@@ -13,6 +13,7 @@ use std::process::{Command, ExitCode, Stdio};
 use std::thread;
 use std::time::{Duration, Instant};
 
+use oracle::plan::thicknesses;
 use oracle::random::Random;
 use oracle::{cases, cuts, inspect, numbers, print, refusal, text};
 
@@ -94,8 +95,9 @@ fn compare(program: &str, parts: &[&[u8]], random: &mut Random) -> Result<(), St
     let planned = print::plan_of(input);
     if let Ok(plan) = &planned {
         let d = plan.dimensions();
-        let (extents, weights) = (&plan.extents[..d], &plan.weights[..d]);
-        inspect::inspect(plan.p, extents, weights, &printed, random)?;
+        let lists = [plan.extents, plan.least, plan.weights];
+        let [extents, least, weights] = lists.each_ref().map(|list| &list[..d]);
+        inspect::inspect(plan.p, extents, least, weights, &printed, random)?;
     }
     match planned {
         Ok(_) | Err(refusal::NO_CUTS) => second_opinion(input),
@@ -106,15 +108,15 @@ fn compare(program: &str, parts: &[&[u8]], random: &mut Random) -> Result<(), St
 /// Where the oracle did not try all fitting cuts, its choice is checked by trying all divisors, if
 /// these are not too many either.
 fn second_opinion(input: &[u8]) -> Result<(), String> {
-    let numbers = text::read(input).expect("a job that was read before");
-    let (p, d) = (numbers[0], numbers[1]);
-    let (extents, weights) = numbers[2..].split_at(d as usize);
+    let job = text::job(input).expect("a job that was read before");
+    let (p, d, extents, weights) = (job.p, job.d, &job.extents, &job.weights);
+    let least = &thicknesses(d, &job.least);
     let divisors = numbers::divisors(p).len() as u128;
-    if cuts::fitting(extents) <= cuts::TRY_ALL_UP_TO || divisors.pow(d - 1) > 20_000 {
+    if cuts::fitting(extents, least) <= cuts::TRY_ALL_UP_TO || divisors.pow(d - 1) > 20_000 {
         return Ok(());
     }
-    let first = cuts::cheapest(p, extents, weights);
-    let second = cuts::by_divisors(p, extents, weights);
+    let first = cuts::cheapest(p, extents, least, weights);
+    let second = cuts::by_divisors(p, extents, least, weights);
     if first == second {
         Ok(())
     } else {
