@@ -1,17 +1,15 @@
 -- The lines 1, 2, 12, 3, 4, 13 and 5 of the table, one after the other, by the tests of the code.
-use mathlib.Core.Path.{_≡_, refl, sym, ap, _∙_}
-use mathlib.Core.Bool.{true, false, not, _||_}
-use mathlib.Core.List.{List, [], _∷_}
+use mathlib.Core.Path.{_≡_, refl, ap, _∙_}
+use mathlib.Core.Bool.{true, false, not}
 use mathlib.Core.Logic.{inl, inr}
 use Prim.Native.Nat.{ℕ}
 use borrow.Author.Tests.{ne-eqb, eq-eqb}
-use lib.Dec.{ltb, eqb}
-use lib.ListN.{length}
+use lib.Dec.{eqb}
 use Rattle.multipartition.specs.Answers.{answered, refused}
-use Rattle.multipartition.specs.Plans.{Job, thickJob, jobWith}
+use Rattle.multipartition.specs.Plans.{Job}
 use Rattle.multipartition.specs.Jobs.{firstOutside, firstZero, lengthsCheck}
 use Rattle.multipartition.proofs.Answers.{FirstFails, checked-passed, checked-refused}
-use Rattle.multipartition.proofs.Tests.{or-true-iff, outsideRange, outside-range}
+use Rattle.multipartition.proofs.Tests.{outsideRange, outside-range}
 use Rattle.diagonal.specs.Diagonal.{diagonalPlan, sideOf, suits, sideFits, diagonalChecks, diagonalAnswer}
 
 module _ (job : Job) where
@@ -64,10 +62,3 @@ module _ (job : Job) where
               planned e =
                   checked-passed (diagonalChecks job) (answered (diagonalPlan job (sideOf (job .d) (job .p))))
                   (outside-range 2 5 (job .d) ∙ d-in, (outside-range 1 4096 (job .p) ∙ p-in, (ap not suit, (many, (extents-pass, (least-pass, (ap not e, tt)))))))
-
--- where thicknesses are given, or d is too large, the answer is that to the list as it is
-pub as-given : (p d : ℕ) (extents weights given : List ℕ) → not (eqb (length given) 0) || ltb 5 d ≡ true
-    → diagonalAnswer (thickJob p d extents weights given) ≡ diagonalAnswer (jobWith p d extents weights given)
-as-given p d extents weights [] e =
-    let large = or-true-iff (ltb d 2) (ltb 5 d) .1 (inr e) in refused-1 (thickJob p d extents weights []) large ∙ sym (refused-1 (jobWith p d extents weights []) large)
-as-given p d extents weights (t ∷ given) e = refl

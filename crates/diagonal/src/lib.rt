@@ -10,7 +10,7 @@ ghost use Prim.Native.Nat.{_-_, _*_, _^_, _≤_};
 ghost use lib.Dec.{leb};
 ghost use lib.ListN.{length, replicate, take};
 ghost use Rattle.multipartition.specs.Cuts.{cutCost, costOf};
-ghost use Rattle.multipartition.specs.Plans.{thickJob, jobWith};
+ghost use Rattle.multipartition.specs.Plans.{leastOf, jobWith};
 ghost use Rattle.layout.specs.Plans.{five, flat, planOf};
 ghost use Rattle.planner.specs.Planned.{plannedOf};
 ghost use Rattle.diagonal.specs.Diagonal.{diagonalCuts, diagonalMatrix, diagonalPlan, suitedSide, sideFits, diagonalAnswer};
@@ -63,7 +63,7 @@ fn slabs_fit(s: u32, extent: u32, least: u32) -> bool
     s as u64 * least as u64 <= extent as u64
 }
 
-// Whether s cuts each way fit.
+// Whether s cuts each way fit, with these least thicknesses.
 fn side_fits(s: u32, extents: &[u32], least: &[u32]) -> bool
     requires { ⌜ length (now least) ≡ length (now extents) ⌝ }
     ensures { λ r. ⌜ r ≡ sideFits s (now (extents .entry)) (now (least .entry)) ⌝ }
@@ -73,6 +73,28 @@ fn side_fits(s: u32, extents: &[u32], least: &[u32]) -> bool
         ok = ok & slabs_fit(s, extents[k], least[k]);
     }
     ok
+}
+
+// Whether they fit with slabs of any thickness.
+fn side_within(s: u32, extents: &[u32]) -> bool
+    ensures { λ r. ⌜ r ≡ sideFits s (now (extents .entry)) (replicate (length (now (extents .entry))) 1) ⌝ }
+{
+    let mut ok = true;
+    for k in 0..extents.len() {
+        ok = ok & (s <= extents[k]);
+    }
+    ok
+}
+
+// Whether they fit, by the list of thicknesses given.
+fn cuts_fit(s: u32, extents: &[u32], given: &[u32]) -> bool
+    requires { ⌜ length (leastOf (length (now extents)) (now given)) ≡ length (now extents) ⌝ }
+    ensures { λ r. ⌜ r ≡ sideFits s (now (extents .entry)) (leastOf (length (now (extents .entry))) (now (given .entry))) ⌝ }
+{
+    if given.len() == 0 {
+        return side_within(s, extents);
+    }
+    side_fits(s, extents, given)
 }
 
 // What a dimension of weight w costs with s cuts.
@@ -135,10 +157,22 @@ fn matrix_of(d: usize, s: u32) -> [u32; 25]
     matrix
 }
 
+// The least thicknesses of two or three dimensions: those given, or ones where none is given.
+fn thicknesses(d: usize, given: &[u32]) -> [u32; 5]
+    requires { ⌜ (2 ≤ d) × (d ≤ 3) × (length (leastOf d (now given)) ≡ d) ⌝ }
+    ensures { λ r. ⌜ r ≡ five (leastOf d (now (given .entry))) ⌝ }
+{
+    if given.len() == 0 {
+        return with_sides(d, 1, 1);
+    }
+    padded(given)
+}
+
 // The plan with s cuts each way.
-fn plan_with(p: u32, s: u32, extents: &[u32], weights: &[u32], least: &[u32]) -> Plan
-    requires { ⌜ (2 ≤ length (now extents)) × (length (now extents) ≤ 3) × (length (now weights) ≡ length (now extents)) × (length (now least) ≡ length (now extents)) × (1 ≤ s) × (s ≤ 4096) ⌝ }
-    ensures { λ r. ⌜ r ≡ planOf (diagonalPlan (thickJob p (length (now (extents .entry))) (now (extents .entry)) (now (weights .entry)) (now (least .entry))) s) ⌝ }
+fn plan_with(p: u32, s: u32, extents: &[u32], weights: &[u32], given: &[u32]) -> Plan
+    requires { ⌜ (2 ≤ length (now extents)) × (length (now extents) ≤ 3) × (length (now weights) ≡ length (now extents)) × (1 ≤ s) × (s ≤ 4096) ⌝ }
+    requires { ⌜ length (leastOf (length (now extents)) (now given)) ≡ length (now extents) ⌝ }
+    ensures { λ r. ⌜ r ≡ planOf (diagonalPlan (jobWith p (length (now (extents .entry))) (now (extents .entry)) (now (weights .entry)) (now (given .entry))) s) ⌝ }
 {
     let d = extents.len();
     Plan {
@@ -151,13 +185,13 @@ fn plan_with(p: u32, s: u32, extents: &[u32], weights: &[u32], least: &[u32]) ->
         moduli: with_sides(d, 1, s),
         matrix: matrix_of(d, s),
         kind: 1,
-        least: padded(least),
+        least: thicknesses(d, given),
     }
 }
 
-// The answer to a job with a list of least thicknesses: its diagonal plan.
-fn diagonal_thick(p: u32, d: usize, extents: &[u32], weights: &[u32], least: &[u32]) -> Planned
-    ensures { λ r. ⌜ r ≡ plannedOf (diagonalAnswer (thickJob p d (now (extents .entry)) (now (weights .entry)) (now (least .entry)))) ⌝ }
+// The answer to a job: its diagonal plan. An empty list of least thicknesses stands for 1 in every dimension.
+pub fn diagonal_job(p: u32, d: usize, extents: &[u32], weights: &[u32], least: &[u32]) -> Planned
+    ensures { λ r. ⌜ r ≡ plannedOf (diagonalAnswer (jobWith p d (now (extents .entry)) (now (weights .entry)) (now (least .entry)))) ⌝ }
 {
     if (d < 2) | (5 < d) {
         return refused(1, 0);
@@ -169,7 +203,7 @@ fn diagonal_thick(p: u32, d: usize, extents: &[u32], weights: &[u32], least: &[u
     if p < s {
         return refused(12, 0);
     }
-    if (extents.len() != d) | (weights.len() != d) | (least.len() != d) {
+    if (extents.len() != d) | (weights.len() != d) | ((least.len() != 0) & (least.len() != d)) {
         return refused(3, 0);
     }
     let outside = first_outside(extents);
@@ -180,7 +214,7 @@ fn diagonal_thick(p: u32, d: usize, extents: &[u32], weights: &[u32], least: &[u
     if zero != 0 {
         return refused(13, zero);
     }
-    if !side_fits(s, extents, least) {
+    if !cuts_fit(s, extents, least) {
         return refused(5, 0);
     }
     Planned {
@@ -188,15 +222,4 @@ fn diagonal_thick(p: u32, d: usize, extents: &[u32], weights: &[u32], least: &[u
         place: 0,
         plan: plan_with(p, s, extents, weights, least),
     }
-}
-
-// The answer to a job: its diagonal plan. An empty list of least thicknesses stands for 1 in every dimension.
-pub fn diagonal_job(p: u32, d: usize, extents: &[u32], weights: &[u32], least: &[u32]) -> Planned
-    ensures { λ r. ⌜ r ≡ plannedOf (diagonalAnswer (jobWith p d (now (extents .entry)) (now (weights .entry)) (now (least .entry)))) ⌝ }
-{
-    if (least.len() != 0) | (5 < d) {
-        return diagonal_thick(p, d, extents, weights, least);
-    }
-    let ones: [u32; 5] = [1; 5];
-    diagonal_thick(p, d, extents, weights, &ones[0..d])
 }

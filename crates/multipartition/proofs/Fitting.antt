@@ -5,9 +5,9 @@ use mathlib.Core.Path.{_≡_, refl, ap, subst}
 use mathlib.Core.Logic.{_↔_}
 use mathlib.Core.List.{List, [], _∷_}
 use Prim.Native.Nat.{ℕ, zero, suc, _*_, _/_, _≤_, _<_}
-use native.Mathlib.Nat.{not-suc-le-zero, zero-lt-suc, le-of-suc-le-suc, le-trans, mul-one, mul-le-mul-left, le-div-iff-mul-le}
+use native.Mathlib.Nat.{not-suc-le-zero, zero-lt-suc, le-of-suc-le-suc, le-trans, mul-one, mul-le-mul-left, div-one, le-div-iff-mul-le}
 use native.Mathlib.Omega.{arith}
-use lib.ListN.{length, getD}
+use lib.ListN.{length, getD, replicate}
 use Rattle.multipartition.specs.Cuts.{Within, Thick, Fits, mostOf}
 use Rattle.multipartition.proofs.MixedRadix.{Positive}
 use Rattle.multipartition.proofs.Order.{AtMost}
@@ -77,6 +77,11 @@ mostOf-at [] (t ∷ least) h k l = absurd h
 mostOf-at (n ∷ extents) [] h k l = absurd h
 mostOf-at (n ∷ extents) (t ∷ least) h zero l = refl
 mostOf-at (n ∷ extents) (t ∷ least) h (suc k) l = mostOf-at extents least (h .1) k (le-of-suc-le-suc l)
+
+pub mostOf-ones : (extents : List ℕ) → mostOf extents (replicate (length extents) 1) ≡ extents
+unfolding mostOf
+mostOf-ones [] = refl
+mostOf-ones (n ∷ extents) = rw (div-one n, mostOf-ones extents)
 
 -- Cuts fit just if none is 0 or above the most slabs of its dimension: b · t ≤ n just if b ≤ n / t.
 pub fits-iff-within : (extents least cuts : List ℕ) → Thick extents least → Fits extents least cuts ↔ Within (mostOf extents least) cuts

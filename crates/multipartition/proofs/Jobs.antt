@@ -33,11 +33,14 @@ least-iff least = firstFailing-zero-iff (leb 1) (leb-iff 1) least
 pub firstOutside-le : (extents : List ℕ) → firstOutside extents ≤ 1 + length extents
 firstOutside-le extents = firstFailing-le (between 1 1000000) 1 extents
 
-pub firstZero-le : (d : ℕ) (given : List ℕ) → firstZero (leastOf d given) ≤ 1 + length given
-firstZero-le d [] = omega (arith, least-iff (replicate d 1) .1 (λ k l. ones k (subst (λ (n : ℕ). k < n) (length-replicate {A = ℕ} d 1) l)))
+pub firstZero-ones : (d : ℕ) → firstZero (replicate d 1) ≡ 0
+firstZero-ones d = least-iff (replicate d 1) .1 (λ k l. ones k (subst (λ (n : ℕ). k < n) (length-replicate {A = ℕ} d 1) l))
   where
     ones : (k : ℕ) → k < d → 1 ≤ getD (replicate d 1) k 0
     ones k l = omega (arith, getD-replicate {A = ℕ} d k 1 0 l)
+
+pub firstZero-le : (d : ℕ) (given : List ℕ) → firstZero (leastOf d given) ≤ 1 + length given
+firstZero-le d [] = omega (arith, firstZero-ones d)
 firstZero-le d (t ∷ given) = firstFailing-le (leb 1) 1 (t ∷ given)
 
 -- line 3

@@ -1,4 +1,4 @@
-pub mod Thicknesses
+pub mod Given
 pub mod Refusals
 pub mod Choices
 pub mod Answers

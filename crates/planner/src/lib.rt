@@ -5,10 +5,10 @@ use matrix::matrix_of;
 use matrix::moduli_of;
 ghost use mathlib.Core.Path.{_≡_};
 ghost use Prim.Native.Nat.{_/_, _≤_};
-ghost use lib.ListN.{length, take};
+ghost use lib.ListN.{length, take, replicate};
 ghost use Rattle.multipartition.specs.Answers.{refused as refusal};
 ghost use Rattle.multipartition.specs.Cuts.{Thick, mostOf, costOf, cheapest};
-ghost use Rattle.multipartition.specs.Plans.{thickJob, jobWith, layoutWith, between};
+ghost use Rattle.multipartition.specs.Plans.{leastOf, jobWith, layoutWith, between};
 ghost use Rattle.multipartition.specs.Jobs.{firstOutside, firstZero, planWith, planAnswer};
 ghost use Rattle.layout.specs.Plans.{five, planOf};
 ghost use Rattle.planner.specs.Planned.{plannedOf};
@@ -90,8 +90,8 @@ fn most_of(extent: u32, least: u32) -> u32
     extent / least
 }
 
-// The most slabs of each dimension.
-fn most_slabs(extents: &[u32], least: &[u32]) -> [u32; 5]
+// The most slabs of each dimension, by its least thickness.
+fn quotients(extents: &[u32], least: &[u32]) -> [u32; 5]
     requires { ⌜ (length (now extents) ≤ 5) × (Thick (now extents) (now least)) ⌝ }
     ensures { λ r. ⌜ r ≡ five (mostOf (now (extents .entry)) (now (least .entry))) ⌝ }
 {
@@ -102,23 +102,57 @@ fn most_slabs(extents: &[u32], least: &[u32]) -> [u32; 5]
     most
 }
 
+// The same by the list given: where none is given, the extents are the most slabs.
+fn most_slabs(extents: &[u32], given: &[u32]) -> [u32; 5]
+    requires { ⌜ (length (now extents) ≤ 5) × (Thick (now extents) (leastOf (length (now extents)) (now given))) ⌝ }
+    ensures { λ r. ⌜ r ≡ five (mostOf (now (extents .entry)) (leastOf (length (now (extents .entry))) (now (given .entry)))) ⌝ }
+{
+    if given.len() == 0 {
+        return padded(extents);
+    }
+    quotients(extents, given)
+}
+
+// A thickness of 1 in each of d dimensions.
+fn ones(d: usize) -> [u32; 5]
+    requires { ⌜ d ≤ 5 ⌝ }
+    ensures { λ r. ⌜ r ≡ five (replicate d 1) ⌝ }
+{
+    let mut places: [u32; 5] = [0; 5];
+    for k in 0..d {
+        places[k] = 1;
+    }
+    places
+}
+
+// The least thicknesses of d dimensions: those given, or ones where none is given.
+fn thicknesses(d: usize, given: &[u32]) -> [u32; 5]
+    requires { ⌜ (d ≤ 5) × (length (now given) ≤ 5) ⌝ }
+    ensures { λ r. ⌜ r ≡ five (leastOf d (now (given .entry))) ⌝ }
+{
+    if given.len() == 0 {
+        return ones(d);
+    }
+    padded(given)
+}
+
 // The plan with the cuts chosen.
 fn plan_with(
     p: u32,
     extents: &[u32],
     weights: &[u32],
-    least: &[u32],
+    given: &[u32],
     cuts: [u32; 5],
     cost: u64,
 ) -> Plan
-    requires { ⌜ (1 ≤ p) × (p ≤ 4096) × (length (now extents) ≤ 5) × (length (now weights) ≤ 5) × (length (now least) ≤ 5) ⌝ }
+    requires { ⌜ (1 ≤ p) × (p ≤ 4096) × (length (now extents) ≤ 5) × (length (now weights) ≤ 5) × (length (now given) ≤ 5) ⌝ }
     requires { ⌜ (cuts ≡ five (take (length (now extents)) cuts)) × (cost ≡ costOf (now weights) (take (length (now extents)) cuts)) ⌝ }
-    ensures { λ r. ⌜ r ≡ planOf (layoutWith (thickJob p (length (now (extents .entry))) (now (extents .entry)) (now (weights .entry)) (now (least .entry))) (take (length (now (extents .entry))) cuts)) ⌝ }
+    ensures { λ r. ⌜ r ≡ planOf (layoutWith (jobWith p (length (now (extents .entry))) (now (extents .entry)) (now (weights .entry)) (now (given .entry))) (take (length (now (extents .entry))) cuts)) ⌝ }
 {
     let d = extents.len();
     let kept_extents = padded(extents);
     let kept_weights = padded(weights);
-    let kept_least = padded(least);
+    let kept_least = thicknesses(d, given);
     let moduli = moduli_of(p, cuts, d);
     let matrix = matrix_of(p, cuts, moduli, d);
     Plan {
@@ -136,12 +170,12 @@ fn plan_with(
 }
 
 // The answer to a job that passes the lines 1 to 4 of the table and 13.
-fn answer(p: u32, extents: &[u32], weights: &[u32], least: &[u32]) -> Planned
-    requires { ⌜ (Asked p (now extents) (now weights)) × (Thick (now extents) (now least)) ⌝ }
-    ensures { λ r. ⌜ r ≡ plannedOf (planWith (thickJob p (length (now (extents .entry))) (now (extents .entry)) (now (weights .entry)) (now (least .entry))) (cheapest p (now (extents .entry)) (now (least .entry)) (now (weights .entry)))) ⌝ }
+fn answer(p: u32, extents: &[u32], weights: &[u32], given: &[u32]) -> Planned
+    requires { ⌜ (Asked p (now extents) (now weights)) × (Thick (now extents) (leastOf (length (now extents)) (now given))) ⌝ }
+    ensures { λ r. ⌜ r ≡ plannedOf (planWith (jobWith p (length (now (extents .entry))) (now (extents .entry)) (now (weights .entry)) (now (given .entry))) (cheapest p (now (extents .entry)) (leastOf (length (now (extents .entry))) (now (given .entry))) (now (weights .entry)))) ⌝ }
 {
     let d = extents.len();
-    let most = most_slabs(extents, least);
+    let most = most_slabs(extents, given);
     let found = cheapest_cuts(p, &most[0..d], weights);
     if !found.ok {
         return refused(5, 0);
@@ -150,13 +184,13 @@ fn answer(p: u32, extents: &[u32], weights: &[u32], least: &[u32]) -> Planned
     Planned {
         number: 0,
         place: 0,
-        plan: plan_with(p, extents, weights, least, cuts, found.cost),
+        plan: plan_with(p, extents, weights, given, cuts, found.cost),
     }
 }
 
-// The planner's answer to a job with a list of least thicknesses.
-fn plan_thick(p: u32, d: usize, extents: &[u32], weights: &[u32], least: &[u32]) -> Planned
-    ensures { λ r. ⌜ r ≡ plannedOf (planAnswer (thickJob p d (now (extents .entry)) (now (weights .entry)) (now (least .entry)))) ⌝ }
+// The planner's answer to a job; an empty list of least thicknesses stands for 1 in every dimension.
+pub fn plan_job(p: u32, d: usize, extents: &[u32], weights: &[u32], least: &[u32]) -> Planned
+    ensures { λ r. ⌜ r ≡ plannedOf (planAnswer (jobWith p d (now (extents .entry)) (now (weights .entry)) (now (least .entry)))) ⌝ }
 {
     if (d < 2) | (5 < d) {
         return refused(1, 0);
@@ -164,7 +198,7 @@ fn plan_thick(p: u32, d: usize, extents: &[u32], weights: &[u32], least: &[u32])
     if (p < 1) | (4096 < p) {
         return refused(2, 0);
     }
-    if (extents.len() != d) | (weights.len() != d) | (least.len() != d) {
+    if (extents.len() != d) | (weights.len() != d) | ((least.len() != 0) & (least.len() != d)) {
         return refused(3, 0);
     }
     let outside = first_outside(extents);
@@ -176,15 +210,4 @@ fn plan_thick(p: u32, d: usize, extents: &[u32], weights: &[u32], least: &[u32])
         return refused(13, zero);
     }
     answer(p, extents, weights, least)
-}
-
-// The planner's answer to a job; an empty list of least thicknesses stands for 1 in every dimension.
-pub fn plan_job(p: u32, d: usize, extents: &[u32], weights: &[u32], least: &[u32]) -> Planned
-    ensures { λ r. ⌜ r ≡ plannedOf (planAnswer (jobWith p d (now (extents .entry)) (now (weights .entry)) (now (least .entry)))) ⌝ }
-{
-    if (least.len() != 0) | (5 < d) {
-        return plan_thick(p, d, extents, weights, least);
-    }
-    let ones: [u32; 5] = [1; 5];
-    plan_thick(p, d, extents, weights, &ones[0..d])
 }

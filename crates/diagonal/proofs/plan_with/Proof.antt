@@ -29,19 +29,19 @@ with-sides-requires-2 c κs = search needs
 matrix-of-requires : tie.Need-matrix-of-requires
 matrix-of-requires c κs = search needs
 
-padded-requires-3 : tie.Need-padded-requires-3
-padded-requires-3 c κs = search needs
+thicknesses-requires : tie.Need-thicknesses-requires
+thicknesses-requires c κs = search needs
 
 returns : tie.Need-returns
 unfolding planOf
 returns c =
     let start = c .before .before .before .before .before .before .before .before .before .before in
     let d = length (start .args .extents .now) in
-    let some : 1 ≤ d = omega (arith, start .pre .0) in
+    let some : 1 ≤ d = omega (arith, start .pre .0 .0) in
     let cuts = c .before .before .before .before .with-sides .ensures ∙ ap five (cuts-from-first d (start .args .s) some) in
     let moduli = c .before .before .with-sides2 .ensures ∙ ap five (moduli-from-first d (start .args .s) some) in
     let cost =
-    c .before .before .before .cost-of .ensures ∙ ap (λ (n : ℕ). costOf (start .args .weights .now) (diagonalCuts n (start .args .s))) (start .pre .2) in
+    c .before .before .before .cost-of .ensures ∙ ap (λ (n : ℕ). costOf (start .args .weights .now) (diagonalCuts n (start .args .s))) (start .pre .0 .2) in
     λ i. record {
       d = d;
       p = start .args .p;
@@ -52,7 +52,7 @@ returns c =
       moduli = moduli i;
       matrix = c .before .matrix-of .ensures i;
       kind = 1;
-      least = c .padded3 .ensures i;
+      least = c .thicknesses .ensures i;
     }
 
 pub plan-with-spec : {M : Type 1} → statement M
@@ -65,5 +65,5 @@ plan-with-spec =
     cost-of-requires
     with-sides-requires-2
     matrix-of-requires
-    padded-requires-3
+    thicknesses-requires
     returns)

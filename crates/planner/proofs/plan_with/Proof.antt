@@ -11,8 +11,8 @@ padded-requires c κs = search needs
 padded-requires-2 : tie.Need-padded-requires-2
 padded-requires-2 c κs = search needs
 
-padded-requires-3 : tie.Need-padded-requires-3
-padded-requires-3 c κs = search needs
+thicknesses-requires : tie.Need-thicknesses-requires
+thicknesses-requires c κs = search needs
 
 moduli-of-requires : tie.Need-moduli-of-requires
 moduli-of-requires c κs = search needs
@@ -34,10 +34,10 @@ returns c =
       moduli = c .before .moduli-of .ensures i;
       matrix = c .matrix-of .ensures i;
       kind = 0;
-      least = c .before .before .padded3 .ensures i;
+      least = c .before .before .thicknesses .ensures i;
     }
 
 pub plan-with-spec : {M : Type 1} → statement M
 plan-with-spec =
     tie.close
-    (tie.spec padded-requires padded-requires-2 padded-requires-3 moduli-of-requires matrix-of-requires returns)
+    (tie.spec padded-requires padded-requires-2 thicknesses-requires moduli-of-requires matrix-of-requires returns)
