@@ -13,7 +13,7 @@ use borrow.Author.Tests.{not-true, not-false, leb-true, eqb-true, le-leb, eq-eqb
 use Rattle.numbers.specs.Products.{product}
 use Rattle.multipartition.specs.Lists.{allBelow}
 use Rattle.multipartition.specs.Plans.{between, dimensionOk, leastOk, inShape, InShape}
-use Rattle.multipartition.proofs.Plans.{dimension-iff, least-iff, in-shape-iff}
+use Rattle.multipartition.proofs.Plans.{dimension-iff, leastOk-iff, in-shape-iff}
 use Rattle.multipartition.proofs.Tests.{and-iff, all-iff, ltb-iff, between-true-iff}
 use Rattle.layout.specs.declared.Plan.{Plan}
 use Rattle.layout.specs.Plans.{layoutOf}
@@ -32,7 +32,7 @@ Place d extents cuts moduli matrix least k =
 place-iff : (d : ℕ) (extents cuts moduli matrix least : List ℕ) (k : ℕ) → (placeFits d extents cuts moduli matrix least k ≡ true) ↔ Place d extents cuts moduli matrix least k
 place-iff d extents cuts moduli matrix least k =
     and-iff (dimensionOk extents cuts k && leastOk extents least cuts k) (rowFits d moduli matrix k)
-    (and-iff (dimensionOk extents cuts k) (leastOk extents least cuts k) (dimension-iff extents cuts k) (least-iff extents least cuts k))
+    (and-iff (dimensionOk extents cuts k) (leastOk extents least cuts k) (dimension-iff extents cuts k) (leastOk-iff extents least cuts k))
     (and-iff (between 1 4096 m) (allBelow d (λ j. ltb (entryOf matrix k j) m)) (between-true-iff 1 4096 m)
     (all-iff d (λ j. ltb (entryOf matrix k j) m) (λ j. ltb-iff (entryOf matrix k j) m)))
   where

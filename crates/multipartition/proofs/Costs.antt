@@ -4,7 +4,7 @@ use mathlib.Core.Logic.{_↔_}
 use mathlib.Core.List.{List, [], _∷_}
 use mathlib.Core.Option.{Option, none, some}
 use Prim.Native.Nat.{ℕ, zero, suc, _+_, _-_, _*_, _∣_, _≤_, _<_}
-use native.Mathlib.Nat.{not-suc-le-zero, zero-lt-suc, le-refl, le-trans, one-dvd, mul-comm, suc-mul}
+use native.Mathlib.Nat.{not-suc-le-zero, zero-lt-suc, le-refl, one-dvd, mul-comm, suc-mul}
 use native.Mathlib.Omega.{arith}
 use lib.ListN.{length, getD}
 use Rattle.numbers.specs.Products.{product, without}
@@ -13,8 +13,8 @@ use Rattle.multipartition.specs.Cuts.{Even, Within, Fits, cutCost, costO
 use Rattle.multipartition.specs.Plans.{Job, Layout, layoutWith}
 use Rattle.multipartition.specs.Jobs.{Passed, cheapestFor, planWith, planAnswer}
 use Rattle.multipartition.proofs.Order.{PrecedesBy, precedes-iff-shifted}
-use Rattle.multipartition.proofs.Fitting.{within-length, within-positive, within-le, fits-length, fits-positive, fits-thickness, le-mul-of-pos}
-use Rattle.multipartition.proofs.Cheapest.{Cheapest, cheapest-law, cheapest-within, cheapest-le}
+use Rattle.multipartition.proofs.Fitting.{fits-length, fits-positive, fits-thickness, le-mul-of-pos}
+use Rattle.multipartition.proofs.Cheapest.{Cheapest, cheapest-law, cheapest-le}
 use Rattle.multipartition.proofs.Chosen.{mostFor, chosen-is, fits-iff, none-chosen, chosen-fits}
 use Rattle.multipartition.proofs.Minimal.{positive-at}
 use Rattle.multipartition.proofs.Jobs.{plan-of-passed, plan-answered}
@@ -32,20 +32,10 @@ uncut-free [] cuts = refl
 uncut-free (w ∷ weights) [] = refl
 uncut-free (w ∷ weights) (b ∷ cuts) = let later = uncut-free weights cuts in omega arith
 
-uncut-within : (most : List ℕ) → ((k : ℕ) → k < length most → 1 ≤ getD most k 0) → Within most (uncut most)
-uncut-within [] h = tt
-uncut-within (n ∷ most) h = (le-refl 1, h 0 (zero-lt-suc (length most)), uncut-within most (λ k l. h (suc k) (omega arith)))
-
--- where there are cuts within bounds, no bound is 0
-bound-of-within : (most cuts : List ℕ) → Within most cuts → (k : ℕ) → k < length most → 1 ≤ getD most k 0
-bound-of-within most cuts w k l =
-    let here : k < length cuts = subst⁻¹ (λ (n : ℕ). k < n) (within-length most cuts w) l in
-    le-trans (positive-at cuts (within-positive most cuts w) k here) (within-le most cuts w k here)
-
 even-of-lone : (p : ℕ) (cuts : List ℕ) → p ≡ 1 → Even p cuts
 even-of-lone p cuts lone k l = subst⁻¹ (λ (n : ℕ). n ∣ product (without k cuts)) lone (one-dvd (product (without k cuts)))
 
--- the uncut grid fits just if no least thickness is above its extent
+-- the uncut grid fits if no least thickness is above its extent
 uncut-fits : (extents least : List ℕ) → length least ≡ length extents → ((k : ℕ) → k < length extents → getD least k 0 ≤ getD extents k 0)
     → Fits extents least (uncut extents)
 uncut-fits [] [] e h = tt
@@ -82,12 +72,11 @@ lone-accepted-iff job passed lone = (there, back (cheapestFor job) refl)
 pub lone-costs-nothing : (job : Job) (plan : Layout) → job .p ≡ 1 → planAnswer job ≡ answered plan → plan .cost ≡ 0
 lone-costs-nothing job plan lone e =
     let made = plan-answered job plan e in
-    let most = mostFor job in
-    let is = sym (chosen-is job) ∙ made .cuts-are in
-    let low = cheapest-le (job .p) most (job .weights) (plan .cuts) (uncut most) is
-    (uncut-within most (bound-of-within most (plan .cuts) (cheapest-within (job .p) most (job .weights) (plan .cuts) is)))
-    (even-of-lone (job .p) (uncut most) lone) in
-    let free = uncut-free (job .weights) most in
+    let passed = made .passed in
+    let whole = uncut-fits (job .extents) (job .least) (passed .least-many ∙ sym (passed .extents-many)) (lone-accepted-iff job passed lone .0 (plan, e)) in
+    let low = cheapest-le (job .p) (mostFor job) (job .weights) (plan .cuts) (uncut (job .extents)) (sym (chosen-is job) ∙ made .cuts-are)
+    (fits-iff job passed (uncut (job .extents)) .0 whole) (even-of-lone (job .p) (uncut (job .extents)) lone) in
+    let free = uncut-free (job .weights) (job .extents) in
     ap (λ (l : Layout). l .cost) (made .plan-is) ∙ omega (arith, low, free)
 
 -- ---- the former cost

@@ -43,9 +43,9 @@ dimension-iff extents cuts k =
     b : ℕ
     b = getD cuts k 0
 
-pub least-iff : (extents least cuts : List ℕ) (k : ℕ) → (leastOk extents least cuts k ≡ true)
+pub leastOk-iff : (extents least cuts : List ℕ) (k : ℕ) → (leastOk extents least cuts k ≡ true)
     ↔ ((1 ≤ getD least k 0) × (getD cuts k 0 * getD least k 0 ≤ getD extents k 0))
-least-iff extents least cuts k =
+leastOk-iff extents least cuts k =
     and-iff (leb 1 (getD least k 0)) (leb (getD cuts k 0 * getD least k 0) (getD extents k 0)) (leb-iff 1 (getD least k 0))
     (leb-iff (getD cuts k 0 * getD least k 0) (getD extents k 0))
 
@@ -74,7 +74,7 @@ in-shape-iff plan =
     let K : Bool = leb (plan .kind) 1 in
     let kinds = and-iff (D && P && C && T && R && M) K moduli (leb-iff (plan .kind) 1) in
     let all = and-iff (D && P && C && T && R && M && K) (allBelow (plan .d) (leastOk (plan .extents) (plan .least) (plan .cuts))) kinds
-    (all-iff (plan .d) (leastOk (plan .extents) (plan .least) (plan .cuts)) (least-iff (plan .extents) (plan .least) (plan .cuts))) in (
+    (all-iff (plan .d) (leastOk (plan .extents) (plan .least) (plan .cuts)) (leastOk-iff (plan .extents) (plan .least) (plan .cuts))) in (
       (λ e. let h = all .0 e in
           record {
             d-range = h .0 .0 .0 .0 .0 .0 .0;

@@ -48,7 +48,7 @@ Fits (n ∷ extents) [] cuts = ⊥
 Fits (n ∷ extents) (t ∷ least) [] = ⊥
 Fits (n ∷ extents) (t ∷ least) (b ∷ cuts) = (1 ≤ b) × (b * t ≤ n) × Fits extents least cuts
 
--- the most slabs that each dimension may have: bk times tk is at most nk just if bk is at most nk / tk, rounded down
+-- the most slabs that each dimension may have: where tk is not 0, bk times tk is at most nk just if bk is at most nk / tk, rounded down
 unfoldable pub mostOf : List ℕ → List ℕ → List ℕ
 mostOf [] least = []
 mostOf (n ∷ extents) [] = []

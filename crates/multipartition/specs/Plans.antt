@@ -1,10 +1,11 @@
--- What a job and a plan hold, and when a plan is in shape (document 01, "Quantities" and "Where each call turns back").
+-- What a job and a plan hold, and when a plan is in shape (document 01, "Quantities" and "Where each call turns back"; document 02, request c, for the
+-- kind, and request g, for the least thicknesses).
 use mathlib.Core.Bool.{Bool, _&&_}
 use mathlib.Core.List.{List, [], _∷_}
 use mathlib.Core.Path.{_≡_}
 use Prim.Native.Nat.{ℕ, _*_, _≤_, _<_}
 use lib.Dec.{leb, ltb, eqb}
-use lib.ListN.{length, getD, replicate}
+use lib.ListN.{getD, replicate}
 use Rattle.numbers.specs.Products.{product}
 use Rattle.multipartition.specs.Lists.{allBelow}
 use Rattle.multipartition.specs.Cuts.{costOf}
@@ -20,6 +21,7 @@ pub record Job : Type 0 where
   pub weights : List ℕ
   pub least : List ℕ
 
+-- the job with just these thicknesses
 abbrev pub thickJob : ℕ → ℕ → List ℕ → List ℕ → List ℕ → Job
 thickJob p d extents weights least = record { p = p; d = d; extents = extents; weights = weights; least = least }
 
