@@ -327,23 +327,10 @@ static void out_of_shape(const uint32_t *plan, size_t place, uint32_t number)
     free(changed);
 }
 
-int main(void)
+/* Lists of other lengths than a plan's, and lists with a number that is out of shape. */
+static void plan_lists(const uint32_t *plan, const uint32_t *diagonal_plan)
 {
     const size_t n = MULTIPARTITION_PLAN_LENGTH;
-    const uint32_t extents[3] = {8, 8, 8};
-    const uint32_t weights[3] = {1, 1, 1};
-    const uint32_t least[3] = {4, 1, 2};
-    uint32_t plan[MULTIPARTITION_PLAN_LENGTH], diagonal_plan[MULTIPARTITION_PLAN_LENGTH];
-    jobs(multipartition_plan);
-    jobs(multipartition_diagonal);
-    thicknesses(multipartition_plan);
-    thicknesses(multipartition_diagonal);
-    diagonals();
-    hypercubes();
-    visits();
-    expect("a job", multipartition_plan(4, 3, extents, 3, weights, 3, least, 3, plan, n), MULTIPARTITION_ANSWERED, 0);
-    expect("a job", multipartition_diagonal(4, 3, extents, 3, weights, 3, least, 0, diagonal_plan, n), MULTIPARTITION_ANSWERED, 0);
-
     const struct question good = {3, 3, 1, 7, 8, 1, 3, 2};
     questions("plan list empty", plan, 0, good, MULTIPARTITION_BAD_PLAN, MULTIPARTITION_BAD_PLAN);
     questions("plan list without a kind", plan, 49, good, MULTIPARTITION_BAD_PLAN, MULTIPARTITION_BAD_PLAN);
@@ -363,6 +350,11 @@ int main(void)
     out_of_shape(plan, MULTIPARTITION_KIND, UINT32_MAX);
     out_of_shape(diagonal_plan, MULTIPARTITION_KIND, 2);
     out_of_shape(diagonal_plan, MULTIPARTITION_MODULI + 1, 1);
+}
+
+/* Lists whose thicknesses are out of shape. */
+static void too_thick(const uint32_t *plan, const uint32_t *diagonal_plan)
+{
     for (size_t k = 0; k < 3; k++) {
         out_of_shape(plan, MULTIPARTITION_LEAST + k, 0);
         out_of_shape(plan, MULTIPARTITION_LEAST + k, 5);
@@ -374,28 +366,59 @@ int main(void)
     }
     out_of_shape(plan, MULTIPARTITION_EXTENTS, 7);
     out_of_shape(plan, MULTIPARTITION_CUTS, 3);
+}
 
+/* Questions out of range, and answer lists of other lengths. */
+static void out_of_range(const uint32_t *plan)
+{
+    const size_t n = MULTIPARTITION_PLAN_LENGTH;
     const struct question no_dimension = {4, 0, 2, 8, 0, 2, 3, 0};
     const struct question high_dimension = {4, 4, 2, 8, 9, 1, 2, 0};
-    const struct question out_of_range = {4, 1, 2, 8, 9, UINT32_MAX, 3, 0};
+    const struct question above = {4, 1, 2, 8, 9, UINT32_MAX, 3, 0};
     const struct question long_position = {UINT32_MAX, 3, UINT32_MAX, UINT32_MAX, UINT32_MAX, 0, 4, 0};
     const struct question no_answer_list = {3, 3, 1, 7, 8, 1, 3, 0};
     const struct question long_answer_list = {3, 3, 1, 7, 8, 1, 3, 5};
     questions("dimension 0", plan, n, no_dimension, MULTIPARTITION_OUT_OF_RANGE, MULTIPARTITION_BAD_DIMENSION);
     questions("dimension 4", plan, n, high_dimension, MULTIPARTITION_OUT_OF_RANGE, MULTIPARTITION_BAD_DIMENSION);
-    questions("out of range", plan, n, out_of_range, MULTIPARTITION_OUT_OF_RANGE, MULTIPARTITION_OUT_OF_RANGE);
+    questions("out of range", plan, n, above, MULTIPARTITION_OUT_OF_RANGE, MULTIPARTITION_OUT_OF_RANGE);
     questions("position too long", plan, n, long_position, MULTIPARTITION_OUT_OF_RANGE, MULTIPARTITION_OUT_OF_RANGE);
     questions("no answer list", plan, n, no_answer_list, MULTIPARTITION_BAD_ANSWER_LENGTH, MULTIPARTITION_BAD_ANSWER_LENGTH);
     questions("answer list too long", plan, n, long_answer_list, MULTIPARTITION_BAD_ANSWER_LENGTH, MULTIPARTITION_BAD_ANSWER_LENGTH);
+}
 
-    /* In shape with any thickness that fits, and whatever stands past the dimensions. */
+/* In shape with any thickness that fits, and whatever stands past the dimensions. */
+static void thick_enough(uint32_t *plan)
+{
+    const size_t n = MULTIPARTITION_PLAN_LENGTH;
+    const struct question no_answer_list = {3, 3, 1, 7, 8, 1, 3, 0};
     for (uint32_t thickness = 1; thickness <= 4; thickness++) {
         plan[MULTIPARTITION_LEAST] = thickness;
         plan[MULTIPARTITION_LEAST + 3] = UINT32_MAX * (thickness % 2);
         questions("thick enough", plan, n, no_answer_list, MULTIPARTITION_BAD_ANSWER_LENGTH, MULTIPARTITION_BAD_ANSWER_LENGTH);
         chain_lists("thick enough", plan, n, 4, 0, MULTIPARTITION_BAD_ANSWER_LENGTH);
     }
+}
 
+int main(void)
+{
+    const size_t n = MULTIPARTITION_PLAN_LENGTH;
+    const uint32_t extents[3] = {8, 8, 8};
+    const uint32_t weights[3] = {1, 1, 1};
+    const uint32_t least[3] = {4, 1, 2};
+    uint32_t plan[MULTIPARTITION_PLAN_LENGTH], diagonal_plan[MULTIPARTITION_PLAN_LENGTH];
+    jobs(multipartition_plan);
+    jobs(multipartition_diagonal);
+    thicknesses(multipartition_plan);
+    thicknesses(multipartition_diagonal);
+    diagonals();
+    hypercubes();
+    visits();
+    expect("a job", multipartition_plan(4, 3, extents, 3, weights, 3, least, 3, plan, n), MULTIPARTITION_ANSWERED, 0);
+    expect("a job", multipartition_diagonal(4, 3, extents, 3, weights, 3, least, 0, diagonal_plan, n), MULTIPARTITION_ANSWERED, 0);
+    plan_lists(plan, diagonal_plan);
+    too_thick(plan, diagonal_plan);
+    out_of_range(plan);
+    thick_enough(plan);
     chain_lists("plan list without a kind", plan, 49, 4, 8, MULTIPARTITION_BAD_PLAN);
     chain_lists("plan list without thicknesses", plan, 50, 4, 8, MULTIPARTITION_BAD_PLAN);
     chain_lists("too few heads", plan, n, 3, 8, MULTIPARTITION_BAD_ANSWER_LENGTH);
