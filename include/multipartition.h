@@ -6,8 +6,8 @@
  * from 1; processors, slabs, elements and steps of a sweep from 0; tiles from 1.
  *
  * Proved, for all numbers and for lists of all lengths and contents:
- * - Every call returns. It returns 0 and has written every place of its answer lists, or it returns a refusal and has written nothing.
- *   The refusal is the first of the table below that applies.
+ * - Every call returns. It returns 0 and has written every place of its answer lists (multipartition_slabs_of as many as it has elements, and no
+ *   others), or it returns a refusal and has written nothing. The refusal is the first of the table below that applies.
  * - What a call returns and writes is settled by its numbers and its lists alone, and it writes no other list.
  * - A plan list is any list of 55 numbers. One that multipartition_plan or multipartition_diagonal wrote is in shape, and its tiles are even: every
  *   processor owns equally many tiles in every slab of every dimension. One that is made or changed by hand is answered by the same formulas where
@@ -18,6 +18,8 @@
  * - In every plan list in shape the slabs of a dimension hold each of its elements once, and multipartition_slab_of names the slab that holds it. The
  *   first (extent modulo cut) slabs have one element more than the others; so no slab has more elements than one before it, nor fewer than the extent
  *   divided by the cut, rounded down, and two of them differ by at most one. Every slab has at least the least thickness of its dimension.
+ * - Each slab that multipartition_slabs_of writes is the one that multipartition_slab_of answers for that element, and an element that the latter
+ *   refuses, the former refuses with the same number.
  * - The answers of multipartition_timetable fit together, for every plan list in shape: what a processor sends after a step is exactly what its
  *   receiver expects before the next, and the receiver names the sender; except after the last step, the lengths that all processors send after a
  *   step add up to the product of the extents of the other dimensions; no length is cut off to 32 bits. For a list that multipartition_plan or
@@ -137,7 +139,8 @@ enum multipartition_number {
     MULTIPARTITION_BAD_DIMENSION = 7,      /* the dimension is not 1 to d */
     MULTIPARTITION_OTHER_EXTENTS = 11,     /* the product of the extents of the other dimensions is above 4,294,967,295 */
     MULTIPARTITION_OUT_OF_RANGE = 8,       /* a slab, element, tile, coordinate, step or processor out of range, or a wrong number of coordinates */
-    MULTIPARTITION_BAD_ANSWER_LENGTH = 9
+    MULTIPARTITION_BAD_ANSWER_LENGTH = 9,
+    MULTIPARTITION_NOT_RISING = 14         /* an element is smaller than the one before; the place is that of the first such, counted from 1 */
 };
 
 /* Of what a call returned, the number and the place (0 unless named above). */
@@ -200,6 +203,15 @@ uint64_t multipartition_slab(const uint32_t *plan, size_t plan_length,
 uint64_t multipartition_slab_of(const uint32_t *plan, size_t plan_length,
                                 uint32_t dimension, uint32_t element,
                                 uint32_t *answer, size_t answer_length);
+
+/* Which slabs of a dimension hold the elements of a list, which rises: no element is smaller than the one before; equal neighbours are allowed, and
+ * the list may be empty. The slabs go to the front of `slabs`, one for each element; its places past them keep their contents. All checks come before
+ * the first write. The time is in proportion to the elements and the slabs of the dimension together. Refused with 6, 7, 8 (any element out of
+ * range), 9 (`slabs` is shorter than `elements`), 14. A place above 4,294,967,295 is given as 4,294,967,295. */
+uint64_t multipartition_slabs_of(const uint32_t *plan, size_t plan_length,
+                                 uint32_t dimension,
+                                 const uint32_t *elements, size_t elements_length,
+                                 uint32_t *slabs, size_t slabs_length);
 
 /* Which number the tile at a position has; the last dimension runs fastest. Refused with 6, 8, 9. */
 uint64_t multipartition_tile_number(const uint32_t *plan, size_t plan_length,
