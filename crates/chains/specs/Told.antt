@@ -2,7 +2,7 @@
 use mathlib.Core.Path.{_≡_}
 use mathlib.Core.List.{List}
 use Prim.Native.Nat.{ℕ}
-use Rattle.multipartition.specs.Answers.{Answer, answered, refused}
+use Rattle.multipartition.specs.Answers.{Answer, answered, refused, heldBy}
 use Rattle.chains.specs.declared.Chained.{Chained}
 use Rattle.chains.specs.declared.Chained.the-variants as C
 
@@ -11,12 +11,7 @@ abbrev pub toldChained : Chained → List ℕ × List ℕ → Answer (List ℕ �
 toldChained C.Done lists = answered lists
 toldChained (C.Refused number place) lists = refused number place
 
--- the lists after a call: those answered; in a refusal "lent lists keep their contents"
-abbrev pub afterwards : Answer (List ℕ × List ℕ) → List ℕ × List ℕ → List ℕ × List ℕ
-afterwards (answered lists) lent = lists
-afterwards (refused number place) lent = lent
-
 -- a chain call that answers so, for lists that held `lent` and now hold `lists`
 pub record Answers (answer : Answer (List ℕ × List ℕ)) (chained : Chained) (lent lists : List ℕ × List ℕ) : Type 0 where
   pub told : toldChained chained lists ≡ answer
-  pub held : lists ≡ afterwards answer lent
+  pub held : lists ≡ heldBy answer lent

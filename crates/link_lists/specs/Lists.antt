@@ -5,7 +5,7 @@ use mathlib.Core.Path.{_≡_}
 use Prim.Native.Nat.{ℕ, _+_, _*_, _/_, _%_}
 use lib.Dec.{eqb}
 use lib.ListN.{length, getD, take, drop}
-use Rattle.multipartition.specs.Answers.{Answer, answered, refused, checked}
+use Rattle.multipartition.specs.Answers.{Answer, answered, refused, checked, heldBy}
 use Rattle.multipartition.specs.Questions.{lengthCheck}
 use Rattle.layout.specs.declared.Plan.{Plan}
 use Rattle.timetable.specs.Timetable.{Message, Visit}
@@ -50,11 +50,6 @@ into places numbers = checked (lengthCheck (eqb places (length numbers)) ∷ [])
 abbrev pub codeOf : {A : Type 0} → Answer A → ℕ
 codeOf (answered a) = 0
 codeOf (refused number place) = number + 4294967296 * place
-
--- what an answer list, or two, holds afterwards: "lent lists keep their contents" where the call is refused
-abbrev pub heldBy : {A : Type 0} → Answer A → A → A
-heldBy (answered lists) lent = lists
-heldBy (refused number place) lent = lent
 
 -- a call that answers so: what it returns, and what the lent answer lists hold afterwards
 pub record Linked {A : Type 0} (answer : Answer A) (lent : A) (code : ℕ) (after : A) : Type 0 where

@@ -18,3 +18,8 @@ pub record Check : Type 0 where
 abbrev pub checked : {A : Type 0} → List Check → Answer A → Answer A
 checked [] answer = answer
 checked (c ∷ checks) answer = cond (c .fails) (refused (c .number) (c .place)) (checked checks answer)
+
+-- what lent lists hold after a call: those that it answers; in a refusal "lent lists keep their contents"
+abbrev pub heldBy : {A : Type 0} → Answer A → A → A
+heldBy (answered lists) lent = lists
+heldBy (refused number place) lent = lent

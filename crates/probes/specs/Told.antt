@@ -2,7 +2,7 @@
 use mathlib.Core.Path.{_≡_}
 use mathlib.Core.List.{List}
 use Prim.Native.Nat.{ℕ}
-use Rattle.multipartition.specs.Answers.{Answer, answered, refused}
+use Rattle.multipartition.specs.Answers.{Answer, answered, refused, heldBy}
 use Rattle.probes.specs.declared.Probed.{Probed}
 use Rattle.probes.specs.declared.Probed.the-variants as P
 
@@ -11,12 +11,7 @@ abbrev pub toldProbed : Probed → List ℕ → Answer (List ℕ)
 toldProbed P.Done slabs = answered slabs
 toldProbed (P.Refused number place) slabs = refused number place
 
--- the second list after a call: the one answered; in a refusal "lent lists keep their contents"
-abbrev pub afterwards : Answer (List ℕ) → List ℕ → List ℕ
-afterwards (answered slabs) lent = slabs
-afterwards (refused number place) lent = lent
-
 -- a call that answers so, for a second list that held `lent` and now holds `slabs`
 pub record Answers (answer : Answer (List ℕ)) (probed : Probed) (lent slabs : List ℕ) : Type 0 where
   pub told : toldProbed probed slabs ≡ answer
-  pub held : slabs ≡ afterwards answer lent
+  pub held : slabs ≡ heldBy answer lent

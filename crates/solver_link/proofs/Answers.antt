@@ -4,11 +4,14 @@ use mathlib.Core.List.{List, [], _∷_}
 use Prim.Native.Nat.{ℕ, _+_, _*_}
 use lib.ListN.{length}
 use borrow.Author.Tests.{eq-eqb, ne-eqb}
-use Rattle.multipartition.specs.Answers.{Answer, answered, refused, checked}
+use Rattle.multipartition.specs.Answers.{Answer, answered, refused, checked, heldBy}
 use Rattle.chains.specs.declared.Chained.{Chained}
-use Rattle.chains.specs.Told.{toldChained, afterwards, Answers}
-use Rattle.link_lists.specs.Lists.{planPlaces, codeOf, heldBy, Linked}
-use Rattle.solver_link.specs.Link.{planListCheck, andThen}
+use Rattle.chains.specs.Told.{toldChained, Answers}
+use Rattle.probes.specs.declared.Probed.{Probed}
+use Rattle.probes.specs.Told.{toldProbed}
+use Rattle.probes.specs.Told as probes
+use Rattle.link_lists.specs.Lists.{planPlaces, codeOf, Linked}
+use Rattle.solver_link.specs.Link.{planListCheck, andThen, placeIn32}
 
 -- "a plan list of a wrong length is a 6"
 pub linked-list-length : {A : Type 0} (list : List ℕ) (asked : Answer A) (lent : A) → (length list ≡ planPlaces → ⊥)
@@ -40,8 +43,15 @@ pub linked-chains : (list : List ℕ) (asked : Answer (List ℕ × List ℕ)) (c
     → Answers asked chained lent after → (code : ℕ) → ((lists : List ℕ × List ℕ) → code ≡ codeOf (toldChained chained lists))
     → Linked (checked (planListCheck list ∷ []) asked) lent code after
 linked-chains list asked chained lent after e answers code sum =
-    rw (eq-eqb _ _ e) (record { returned = sum after ∙ ap codeOf (answers .told); held = answers .held ∙ same asked })
+    rw (eq-eqb _ _ e) (record { returned = sum after ∙ ap codeOf (answers .told); held = answers .held })
+
+-- the slabs of a probe line of a plan list
+pub linked-probes : (list : List ℕ) (asked : Answer (List ℕ)) (probed : Probed) (lent after : List ℕ) → length list ≡ planPlaces
+    → probes.Answers asked probed lent after → (code : ℕ) → ((slabs : List ℕ) → code ≡ codeOf (placeIn32 (toldProbed probed slabs)))
+    → Linked (checked (planListCheck list ∷ []) (placeIn32 asked)) lent code after
+linked-probes list asked probed lent after e answers code sum =
+    rw (eq-eqb _ _ e) (record { returned = sum after ∙ ap (λ (a : Answer (List ℕ)). codeOf (placeIn32 a)) (answers .told); held = answers .held ∙ same asked })
   where
-    same : (answer : Answer (List ℕ × List ℕ)) → afterwards answer lent ≡ heldBy answer lent
-    same (answered lists) = refl
+    same : (answer : Answer (List ℕ)) → heldBy answer lent ≡ heldBy (placeIn32 answer) lent
+    same (answered slabs) = refl
     same (refused number place) = refl

@@ -2,7 +2,7 @@
 use mathlib.Core.Bool.{not, cond}
 use mathlib.Core.List.{List, [], _∷_}
 use mathlib.Core.Option.{Option, none, some}
-use Prim.Native.Nat.{ℕ}
+use Prim.Native.Nat.{ℕ, min}
 use lib.Dec.{eqb}
 use lib.ListN.{length, replicate}
 use Rattle.multipartition.specs.Answers.{Answer, answered, refused, Check, checked}
@@ -13,6 +13,7 @@ use Rattle.layout.specs.Plans.{layoutOf, planOf}
 use Rattle.planner.specs.declared.Planned.{Planned}
 use Rattle.diagonal.specs.Diagonal.{diagonalAnswer}
 use Rattle.hypercube.specs.Hypercube.{hypercubeAnswer}
+use Rattle.probes.specs.Probes.{probesAnswer}
 use Rattle.timetable.specs.Timetable.{timetableAnswer}
 use Rattle.link_lists.specs.Lists.{planIn, listOfPlan, planPlaces, into, visitNumbers}
 
@@ -74,6 +75,15 @@ slabLink list k s places =
 unfoldable pub slabOfLink : List ℕ → ℕ → ℕ → ℕ → Answer (List ℕ)
 slabOfLink list k element places =
     checked (planListCheck list ∷ []) (andThen (slabOfAnswer (layoutOf (planIn list)) k element) (λ s. into places (s ∷ [])))
+
+-- a place in 32 bits: a larger one is given as 4,294,967,295
+abbrev pub placeIn32 : {A : Type 0} → Answer A → Answer A
+placeIn32 (answered a) = answered a
+placeIn32 (refused number place) = refused number (min place 4294967295)
+
+-- the slabs of a probe line, in a list that held `lent` (document 02, request h)
+unfoldable pub slabsOfLink : List ℕ → ℕ → List ℕ → List ℕ → Answer (List ℕ)
+slabsOfLink list k elements lent = checked (planListCheck list ∷ []) (placeIn32 (probesAnswer (layoutOf (planIn list)) k elements lent))
 
 -- the number of the tile at a position
 unfoldable pub tileNumberLink : List ℕ → List ℕ → ℕ → Answer (List ℕ)

@@ -2,6 +2,7 @@
 // place in the upper 32 bits.
 use chains::Chained;
 use planner::Planned;
+use probes::Probed;
 use questions::Neighbour;
 use questions::Owner;
 use tiles::positions;
@@ -13,10 +14,11 @@ use tiles::slabs;
 use tiles::slabs::Elements;
 use tiles::slabs::SlabNumber;
 use timetable::Visited;
-ghost use Prim.Native.Nat.{_≤_};
+ghost use mathlib.Core.Path.{_≡_};
+ghost use Prim.Native.Nat.{_≤_, min};
 ghost use lib.ListN.{length};
 ghost use Rattle.link_lists.specs.Lists.{Linked};
-ghost use Rattle.solver_link.specs.Link.{plannedListed, planLink, diagonalLink, hypercubeOwnerLink, ownerLink, neighbourLink, slabLink, slabOfLink, tileNumberLink, tilePositionLink, stepLink, timetableLink, chainsLink};
+ghost use Rattle.solver_link.specs.Link.{plannedListed, planLink, diagonalLink, hypercubeOwnerLink, ownerLink, neighbourLink, slabLink, slabOfLink, slabsOfLink, tileNumberLink, tilePositionLink, stepLink, timetableLink, chainsLink};
 
 // What a planning call answered: the answer list gets the plan list.
 fn put_planned(planned: Planned, list: &mut [u32]) -> u64
@@ -156,6 +158,41 @@ pub extern "C" fn multipartition_slab_of(
     match slab {
         SlabNumber::Slab(s) => link_lists::put_one(answer, s),
         SlabNumber::Refused { number, place } => link_lists::joined(number, place),
+    }
+}
+
+// A place in 32 bits: a larger one is given as the largest.
+fn place_in_32(place: usize) -> u32
+    ensures { λ r. ⌜ r ≡ min place 4294967295 ⌝ }
+{
+    if place < 4294967295 {
+        return place as u32;
+    }
+    4294967295
+}
+
+// Which slabs hold the elements of a rising list: they go to the front of the second list.
+#[no_mangle]
+pub extern "C" fn multipartition_slabs_of(
+    plan: &[u32],
+    dimension: u32,
+    elements: &[u32],
+    slabs: &mut [u32],
+) -> u64
+    ensures { λ r. ⌜ Linked (slabsOfLink (now (plan .entry)) dimension (now (elements .entry)) (now (slabs .entry))) (now (slabs .entry)) r (now (slabs .exit)) ⌝ }
+{
+    if plan.len() != link_lists::PLAN_LENGTH {
+        return 6;
+    }
+    let probed = probes::slabs_of(
+        link_lists::plan_in(plan),
+        dimension as usize,
+        elements,
+        slabs,
+    );
+    match probed {
+        Probed::Done => 0,
+        Probed::Refused { number, place } => link_lists::joined(number, place_in_32(place)),
     }
 }
 
