@@ -1,13 +1,13 @@
 -- The first element that is smaller than the one before, and lists without one.
 use mathlib.Core.Path.{_≡_, refl, ap, _∙_}
-use mathlib.Core.Bool.{Bool, true, false, cond}
+use mathlib.Core.Bool.{Bool, true, false, cond, _&&_}
 use mathlib.Core.List.{List, [], _∷_}
 use mathlib.Core.Logic.{_↔_}
 use Prim.Native.Nat.{ℕ, zero, suc, _+_, _≤_, _<_}
-use native.Mathlib.Nat.{le-refl}
+use native.Mathlib.Decide.{decLe}
 use native.Mathlib.Omega.{arith}
-use borrow.Author.Tests.{ltb-true, ltb-false, lt-ltb, le-ltb}
-use lib.Dec.{ltb}
+use borrow.Author.Tests.{ltb-true, ltb-false, lt-ltb, le-ltb, le-leb, lt-leb, ne-eqb}
+use lib.Dec.{ltb, leb, eqb}
 use lib.ListN.{length, getD, drop, drop-of-length-le}
 use lib.Seq.{drop-cons}
 use Rattle.probes.specs.Probes.{firstFallFrom, firstFall}
@@ -32,6 +32,19 @@ module _ (elements : List ℕ) (k before i : ℕ) where
   pub fall-none : length elements ≤ i → firstFallFrom k before (drop i elements) ≡ 0
   unfolding firstFallFrom
   fall-none l = ap (firstFallFrom k before) (drop-of-length-le elements {i = i} l)
+
+-- whether there is none, from the front
+pub rises-next : (elements : List ℕ) (before i : ℕ) → i < length elements
+    → eqb (firstFallFrom (suc i) before (drop i elements)) 0
+    ≡ (leb before (getD elements i 0) && eqb (firstFallFrom (suc (suc i)) (getD elements i 0) (drop (suc i) elements)) 0)
+rises-next elements before i l = go (decLe before (getD elements i 0))
+  where
+    go : Dec (before ≤ getD elements i 0) → eqb (firstFallFrom (suc i) before (drop i elements)) 0
+        ≡ (leb before (getD elements i 0) && eqb (firstFallFrom (suc (suc i)) (getD elements i 0) (drop (suc i) elements)) 0)
+    go (yes rises) = rw (le-leb _ _ rises, fall-later elements (suc i) before i l rises) refl
+    go (no falls) =
+        let smaller : getD elements i 0 < before = omega arith in
+        rw (lt-leb _ _ smaller, fall-here elements (suc i) before i l smaller) (ne-eqb (suc i) 0 (λ e. absurd (omega arith)))
 
 -- ---- what the place says
 

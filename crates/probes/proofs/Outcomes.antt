@@ -3,7 +3,8 @@ use mathlib.Core.Path.{_≡_, refl}
 use mathlib.Core.Bool.{true, false}
 use mathlib.Core.List.{List}
 use Prim.Native.Nat.{ℕ, _≤_, _<_}
-use borrow.Author.Tests.{le-leb, lt-leb, eq-eqb, ne-eqb}
+use borrow.Author.Tests.{le-leb, lt-leb}
+use lib.Dec.{eqb}
 use lib.ListN.{length}
 use Rattle.multipartition.specs.Plans.{Layout, between, inShape}
 use Rattle.multipartition.specs.Questions.{extentOf, cutOf}
@@ -43,12 +44,12 @@ module _ (plan : Layout) (k : ℕ) (elements lent : List ℕ) where
       refused-9 short = rw (asked .shape, asked .dimension, asked .extent-is, within, lt-leb _ _ short) (record { told = refl; held = refl })
 
       module _ (long : length elements ≤ length lent) where
-        pub refused-14 : (fall : ℕ) → fall ≡ firstFall elements → ¬ (fall ≡ 0) → Outcome (P.Refused 14 fall) lent
+        pub refused-14 : eqb (firstFall elements) 0 ≡ false → (place : ℕ) → place ≡ firstFall elements → Outcome (P.Refused 14 place) lent
         unfolding probesAnswer
-        refused-14 fall e some =
-            rw (asked .shape, asked .dimension, asked .extent-is, within, le-leb _ _ long, ← e, ne-eqb _ _ some) (record { told = refl; held = refl })
+        refused-14 falls place e =
+            rw (asked .shape, asked .dimension, asked .extent-is, within, le-leb _ _ long, falls, ← e) (record { told = refl; held = refl })
 
-        pub done : firstFall elements ≡ 0 → (slabs : List ℕ) → slabs ≡ slabsInto n b elements lent → Outcome P.Done slabs
+        pub done : eqb (firstFall elements) 0 ≡ true → (slabs : List ℕ) → slabs ≡ slabsInto n b elements lent → Outcome P.Done slabs
         unfolding probesAnswer
-        done none slabs e =
-            rw (asked .shape, asked .dimension, asked .extent-is, asked .cut-is, within, le-leb _ _ long, eq-eqb _ _ none, e) (record { told = refl; held = refl })
+        done rises slabs e =
+            rw (asked .shape, asked .dimension, asked .extent-is, asked .cut-is, within, le-leb _ _ long, rises, e) (record { told = refl; held = refl })

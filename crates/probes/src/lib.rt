@@ -5,6 +5,7 @@ use tiles::dimensions::has_dimension;
 use tiles::slabs::thickness;
 ghost use mathlib.Core.Path.{_≡_};
 ghost use Prim.Native.Nat.{suc, _+_, _<_, _≤_};
+ghost use lib.Dec.{eqb};
 ghost use lib.ListN.{length};
 ghost use Rattle.multipartition.specs.Slabs.{slabStart, slabOf};
 ghost use Rattle.layout.specs.Plans.{layoutOf};
@@ -33,6 +34,19 @@ fn all_within(elements: &[u32], n: u32) -> bool
     let mut ok = true;
     for i in 0..elements.len() {
         ok = ok & (elements[i] < n);
+    }
+    ok
+}
+
+// Whether no element is smaller than the one before.
+fn rises(elements: &[u32]) -> bool
+    ensures { λ r. ⌜ r ≡ eqb (firstFall (now (elements .entry))) 0 ⌝ }
+{
+    let mut ok = true;
+    let mut i = 1;
+    while i < elements.len() {
+        ok = ok & (elements[i - 1] <= elements[i]);
+        i = i + 1;
     }
     ok
 }
@@ -114,11 +128,10 @@ fn slabs_along(plan: Plan, k: usize, elements: &[u32], slabs: &mut [u32]) -> Pro
             place: 0,
         };
     }
-    let fall = first_fall(elements);
-    if fall != 0 {
+    if !rises(elements) {
         return Probed::Refused {
             number: 14,
-            place: fall,
+            place: first_fall(elements),
         };
     }
     fill(n, plan.cuts[k], elements, slabs);

@@ -2,7 +2,7 @@
 use mathlib.Core.Path.{sym, _∙_}
 use Prim.Native.Nat.{ℕ, _+_, _<_}
 use borrow.Author.Needs.{needs}
-use borrow.Author.Tests.{not-true, not-false}
+use borrow.Author.Tests.{not-true, not-false, eqb-true}
 use lib.ListN.{getD}
 use Rattle.layout.specs.declared.Plan.{Plan}
 use Rattle.layout.specs.Plans.{layoutOf}
@@ -45,14 +45,19 @@ returns-2 c =
     let test = c .before .before .all-within in
     refused-9 _ _ _ _ _ _ (asked-at _ _ (s .pre .0) (s .pre .1)) (sym (test .ensures) ∙ not-false (test .result) (c .before .if1 .left)) (c .if2 .taken)
 
+rises-requires : tie.Need-rises-requires
+rises-requires c κs = search needs
+
 first-fall-requires : tie.Need-first-fall-requires
 first-fall-requires c κs = search needs
 
 returns-3 : tie.Need-returns-3
 returns-3 c =
-    let s = c .before .before .before .before .before .before .before .before in
-    let test = c .before .before .before .before .all-within in
-    refused-14 _ _ _ _ _ _ (asked-at _ _ (s .pre .0) (s .pre .1)) (sym (test .ensures) ∙ not-false (test .result) (c .before .before .before .if1 .left)) (c .before .before .if2 .left) _ (c .before .first-fall .ensures) (c .if3 .taken)
+    let s = c .before .before .before .before .before .before .before .before .before in
+    let within = c .before .before .before .before .before .all-within in
+    let test = c .before .before .rises in
+    refused-14 _ _ _ _ _ _ (asked-at _ _ (s .pre .0) (s .pre .1)) (sym (within .ensures) ∙ not-false (within .result) (c .before .before .before .before .if1 .left)) (c .before .before .before .if2 .left)
+    (sym (test .ensures) ∙ not-true (test .result) (c .before .if3 .taken)) _ (c .first-fall .ensures)
 
 mul-fill : tie.Need-mul-fill
 mul-fill c = search needs
@@ -63,15 +68,15 @@ element-copy-out-fill c = search needs
 fill-requires : tie.Need-fill-requires
 fill-requires c κs =
     let s = c .before .before .before .before .before .before .before .before .before .before in
-    let test = c .before .before .before .before .before .before .all-within in
-    let fall = c .before .before .before .first-fall in
+    let within = c .before .before .before .before .before .before .all-within in
+    let test = c .before .before .before .rises in
     let elements = s .args .elements .now in (
       s .pre .0 .extent-high _ (s .pre .1),
       s .pre .0 .cut-low _ (s .pre .1),
       s .pre .0 .cut-fits _ (s .pre .1),
       record {
-        within = all-within-iff _ elements .0 (sym (test .ensures) ∙ not-false (test .result) (c .before .before .before .before .before .if1 .left));
-        rises = no-fall-iff elements .0 (sym (fall .ensures) ∙ c .before .before .if3 .left);
+        within = all-within-iff _ elements .0 (sym (within .ensures) ∙ not-false (within .result) (c .before .before .before .before .before .if1 .left));
+        rises = no-fall-iff elements .0 (eqb-true _ _ (sym (test .ensures) ∙ not-false (test .result) (c .before .before .if3 .left)));
       },
       c .before .before .before .before .if2 .left,
     )
@@ -82,9 +87,10 @@ same-length c = search needs
 returns-4 : tie.Need-returns-4
 returns-4 c =
     let s = c .before .before .before .before .before .before .before .before .before .before .before .before .before in
-    let test = c .before .before .before .before .before .before .before .before .before .all-within in
-    let fall = c .before .before .before .before .before .before .first-fall in
-    done _ _ _ _ _ _ (asked-at _ _ (s .pre .0) (s .pre .1)) (sym (test .ensures) ∙ not-false (test .result) (c .before .before .before .before .before .before .before .before .if1 .left)) (c .before .before .before .before .before .before .before .if2 .left) (sym (fall .ensures) ∙ c .before .before .before .before .before .if3 .left) _ (c .before .before .fill .ensures)
+    let within = c .before .before .before .before .before .before .before .before .before .all-within in
+    let test = c .before .before .before .before .before .before .rises in
+    done _ _ _ _ _ _ (asked-at _ _ (s .pre .0) (s .pre .1)) (sym (within .ensures) ∙ not-false (within .result) (c .before .before .before .before .before .before .before .before .if1 .left)) (c .before .before .before .before .before .before .before .if2 .left)
+    (sym (test .ensures) ∙ not-false (test .result) (c .before .before .before .before .before .if3 .left)) _ (c .before .before .fill .ensures)
 
 pub slabs-along-spec : {M : Type 1} → statement M
 slabs-along-spec =
@@ -95,6 +101,7 @@ slabs-along-spec =
     all-within-requires
     returns
     returns-2
+    rises-requires
     first-fall-requires
     returns-3
     mul-fill
