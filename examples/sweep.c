@@ -1,7 +1,7 @@
 /* A solver that sweeps a grid of 9 by 9 by 9 elements on 8 processors. Its stencil reads two elements past a tile's edge, so that no slab may be
  * thinner. It plans the job, looks at who owns the tiles of one slab, asks to whom a processor hands its results when the sweep along dimension 1
  * goes on to the next slab, goes through that processor's tiles, and prints the timetable of the sweep: what each processor receives, works on and
- * sends in each step. Then it asks for the two older layouts.
+ * sends in each step. It has probes along dimension 3, and asks which slab each is in and who works on it. Then it asks for the two older layouts.
  *
  *     rt staticlib solver_link
  *     cc -Iinclude examples/sweep.c target/staticlib/libsolver_link.a -o target/sweep && target/sweep
@@ -86,6 +86,22 @@ static void sweep_up(const uint32_t *plan)
         }
 }
 
+/* Who has each probe of a line along dimension 3, which goes through the tiles at 0 1 in the other dimensions. All slabs are asked for at once. */
+static void follow_probes(const uint32_t *plan)
+{
+    enum { PROBES = 5 };
+    const uint32_t elements[PROBES] = {1, 3, 4, 4, 8};
+    uint32_t slabs[PROBES];
+    check(multipartition_slabs_of(plan, MULTIPARTITION_PLAN_LENGTH, 3, elements, PROBES, slabs, PROBES));
+    for (int i = 0; i < PROBES; i++) {
+        const uint32_t position[D] = {0, 1, slabs[i]};
+        uint32_t owner[MULTIPARTITION_OWNER_LENGTH];
+        check(multipartition_owner(plan, MULTIPARTITION_PLAN_LENGTH, position, D, owner, MULTIPARTITION_OWNER_LENGTH));
+        printf("the probe at element %" PRIu32 " of dimension 3 is in slab %" PRIu32 ", in a tile of processor %" PRIu32 "\n", elements[i], slabs[i],
+               owner[MULTIPARTITION_OWNER]);
+    }
+}
+
 /* The layouts of older input decks. The diagonal layout of three dimensions needs a square number of processors, so this plan of the grid is for 4;
  * it is asked like any other. The hypercube layout has no plan list. */
 static void older_layouts(const uint32_t extents[D], const uint32_t weights[D], const uint32_t least[D])
@@ -126,6 +142,7 @@ int main(void)
         printf("dimension %d is uncut\n", DIMENSION);
     hand_on(plan);
     sweep_up(plan);
+    follow_probes(plan);
     older_layouts(extents, weights, least);
     return EXIT_SUCCESS;
 }

@@ -1,7 +1,9 @@
 //! The jobs, plans and questions that are timed.
 
 use crate::plan_list::{list_of, PlanList, PLAN_LENGTH};
-use link::questions::{hypercube, job_for_diagonal, lent};
+use link::questions::{
+    hypercube, job_for_diagonal, lent, lent_to_probes, plan_list, planned, probe_line,
+};
 pub use oracle::plan::Job;
 use oracle::plan::{plan_job, Plan};
 use oracle::random::Random;
@@ -292,6 +294,69 @@ pub fn questions(seed: u64, count: usize) -> Vec<Question> {
         .collect()
 }
 
+/// A question about a probe line, answered or refused: a plan list, a dimension, the elements and a list to lend.
+#[derive(Debug)]
+pub struct Probes {
+    pub plan: Vec<u32>,
+    pub dimension: u32,
+    pub line: Vec<u32>,
+    pub lent: Vec<u32>,
+}
+
+/// Probe lines of some elements along dimensions of plans of all kinds.
+pub fn any_probes(seed: u64, count: usize) -> Vec<Probes> {
+    let mut random = Random::new(seed);
+    let pool = planned(&mut random, 100);
+    let question = |_| {
+        let plan = plan_list(&mut random, &pool);
+        let length = random.between(0, 20) as usize;
+        let (dimension, line) = probe_line(&mut random, &plan, length);
+        let lent = lent_to_probes(&mut random, length);
+        Probes {
+            plan,
+            dimension,
+            line,
+            lent,
+        }
+    };
+    (0..count).map(question).collect()
+}
+
+/// Probe lines along dimension 1 of a plan, all of the same length and to be answered.
+pub struct ProbeLines {
+    pub what: &'static str,
+    pub plan: PlanList,
+    pub lines: Vec<Vec<u32>>,
+}
+
+/// Lines of 1,000 probes and one of 100,000, anywhere in a dimension of 64 slabs and in one of 4,096.
+pub fn probe_lines(seed: u64) -> [ProbeLines; 4] {
+    let mut random = Random::new(seed);
+    [
+        ("probe line of 1000, 64 slabs", 3, 100, 1_000),
+        ("probe line of 100000, 64 slabs", 3, 1, 100_000),
+        ("probe line of 1000, 4096 slabs", 2, 100, 1_000),
+        ("probe line of 100000, 4096 slabs", 2, 1, 100_000),
+    ]
+    .map(|(what, d, lines, probes)| {
+        // A prime, so that elements are left over.
+        let extents = vec![999_983; d];
+        let plan = plan_job(4096, d as u32, &extents, &vec![1; d], &[]);
+        let plan = plan.expect("a roomy grid has cuts");
+        let mut element = |_| random.between(0, u64::from(extents[0]) - 1) as u32;
+        let mut line = |_| {
+            let mut line: Vec<u32> = (0..probes).map(&mut element).collect();
+            line.sort();
+            line
+        };
+        ProbeLines {
+            what,
+            plan: list_of(&plan),
+            lines: (0..lines).map(&mut line).collect(),
+        }
+    })
+}
+
 /// A question to the timetable, to be answered.
 pub struct Visit {
     pub plan: PlanList,
@@ -455,6 +520,19 @@ mod tests {
                 assert_eq!(what, format!("timetable, cuts {}", words.join(" ")));
                 let told = (RIVAL.timetable)(&plan, dimension, up, step, processor, &mut [0; 8]);
                 assert_eq!(told, Ok(()), "{what}");
+            }
+        }
+    }
+
+    #[test]
+    fn the_probe_lines_are_as_named_and_are_answered() {
+        for ProbeLines { what, plan, lines } in probe_lines(1) {
+            let (probes, slabs) = (lines[0].len(), plan[CUTS]);
+            assert_eq!(what, format!("probe line of {probes}, {slabs} slabs"));
+            assert_eq!(lines.len() * probes, 100_000, "{what}");
+            for line in &lines {
+                let mut slabs = vec![7; probes];
+                assert_eq!((RIVAL.slabs_of)(&plan, 1, line, &mut slabs), 0, "{what}");
             }
         }
     }

@@ -11,6 +11,7 @@ pub mod jobs;
 pub mod linked;
 pub mod plan_list;
 pub mod planning;
+pub mod probes;
 pub mod questions;
 pub mod subject;
 pub mod timetable;

@@ -40,6 +40,7 @@ pub const PROVED: Subject = Subject {
     slab_of: |plan, dimension, element, answer| {
         told(calls::slab_of(plan, dimension, element, answer))
     },
+    slabs_of: calls::slabs_of,
     tile_number: |plan, position, answer| told(calls::tile_number(plan, position, answer)),
     tile_position: |plan, tile, answer| told(calls::tile_position(plan, tile, answer)),
     step: |plan, position, dimension, up, answer| {

@@ -11,11 +11,12 @@ use std::path::Path;
 use std::process::{Command, ExitCode, Stdio};
 
 use bench::diagonal;
-use bench::jobs::{self, Job, Question, Visit};
+use bench::jobs::{self, Job, ProbeLines, Question, Visit};
 use bench::linked::PROVED;
-use bench::plan_list::{COST_LOW, LEAST, PLAN_LENGTH, PROCESSORS, WEIGHTS};
+use bench::plan_list::{COST_LOW, CUTS, LEAST, PLAN_LENGTH, PROCESSORS, WEIGHTS};
 use bench::planning;
-use bench::subject::{DiagonalCall, PlanCall, Planned, Returned, Subject, Told, RIVAL};
+use bench::probes::slabs_by_division;
+use bench::subject::{DiagonalCall, PlanCall, Planned, ProbeCall, Returned, Subject, Told, RIVAL};
 use bench::timing::{contest, contest_of_commands, least_seconds, print_head, print_line, Contest};
 
 struct Request {
@@ -54,6 +55,7 @@ fn main() -> ExitCode {
     diagonals(repeats);
     hypercube_owners(repeats);
     questions(repeats);
+    probe_lines(repeats);
     timetables(repeats);
     chains(repeats);
     if let Some(program) = &request.program {
@@ -438,6 +440,77 @@ fn questions(repeats: usize) {
             || all(&RIVAL),
         ));
     }
+}
+
+/// Asks for the slabs of a line with one single question for each element.
+fn one_by_one(plan: &[u32], dimension: u32, line: &[u32], slabs: &mut [u32]) -> Returned {
+    let ask = black_box(PROVED.slab_of);
+    for (&element, slab) in line.iter().zip(slabs.chunks_mut(1)) {
+        if let Err(number) = ask(plan, dimension, element, slab) {
+            return Returned::from(number);
+        }
+    }
+    0
+}
+
+/// Whole probe lines in one call, after a comparison of many others and of refusals: beside the rival, beside the
+/// proved single questions, and beside a division for each element. A time is that of a line.
+fn probe_lines(repeats: usize) {
+    let ours = PROVED.slabs_of;
+    for asked in jobs::any_probes(7, 20_000) {
+        let what = format!("{asked:?}");
+        let sides = [ours, RIVAL.slabs_of, slabs_by_division];
+        compare(&what, &asked.lent, &sides, |&call, slabs| {
+            call(&asked.plan, asked.dimension, &asked.line, slabs)
+        });
+    }
+    for asked in jobs::probe_lines(8) {
+        // With fewer probes than slabs most of the time goes into the edges, which single questions do not visit.
+        let edges = asked.lines[0].len() < asked.plan[CUTS] as usize;
+        let single = if edges { 1.0 } else { 0.25 };
+        let rivals: [(&str, Option<f64>, ProbeCall); 3] = [
+            ("", Some(1.2), RIVAL.slabs_of),
+            (", beside one by one", Some(single), one_by_one),
+            (", beside a division each", None, slabs_by_division),
+        ];
+        for (beside, target, rival) in rivals {
+            print_line(&contest_of_probes(&asked, beside, target, repeats, rival));
+        }
+    }
+}
+
+/// The same lines asked for by both sides, whose slabs are compared first.
+fn contest_of_probes(
+    asked: &ProbeLines,
+    beside: &str,
+    target: Option<f64>,
+    repeats: usize,
+    rival: ProbeCall,
+) -> Contest {
+    let what = format!("{}{beside}", asked.what);
+    let lent = vec![0; asked.lines[0].len()];
+    for line in &asked.lines {
+        compare(&what, &lent, &[PROVED.slabs_of, rival], |&call, slabs| {
+            call(&asked.plan, 1, line, slabs)
+        });
+    }
+    let all = |call: ProbeCall, slabs: &mut [u32]| {
+        let last = asked.lines.iter().map(|line| {
+            assert_eq!(black_box(call)(&asked.plan, 1, line, slabs), 0, "{what}");
+            // Some of the answers; all of them are compared above.
+            u64::from(slabs[slabs.len() / 2]) + u64::from(slabs[slabs.len() - 1])
+        });
+        last.sum()
+    };
+    let (mut slabs, mut others) = (lent.clone(), lent);
+    contest(
+        &what,
+        target,
+        asked.lines.len(),
+        repeats,
+        || all(PROVED.slabs_of, &mut slabs),
+        || all(rival, &mut others),
+    )
 }
 
 fn timetables(repeats: usize) {

@@ -1,7 +1,7 @@
 //! What is measured: the calls of one side, as functions over plain lists.
 
 use crate::plan_list::PlanList;
-use crate::{chains, diagonal, hypercube, planning, questions, timetable};
+use crate::{chains, diagonal, hypercube, planning, probes, questions, timetable};
 
 /// A refusal's number, or nothing where the answer list has been written.
 pub type Told = Result<(), u32>;
@@ -15,6 +15,7 @@ pub type Returned = u64;
 
 pub type PlanCall = fn(u32, u32, &[u32], &[u32], &[u32]) -> Planned;
 pub type DiagonalCall = fn(u32, u32, &[u32], &[u32], &[u32], &mut [u32]) -> Returned;
+pub type ProbeCall = fn(&[u32], u32, &[u32], &mut [u32]) -> Returned;
 pub type StepCall = fn(&[u32], &[u32], u32, bool, &mut [u32]) -> Told;
 pub type TimetableCall = fn(&[u32], u32, bool, u32, u32, &mut [u32]) -> Told;
 
@@ -29,6 +30,7 @@ pub struct Subject {
     pub neighbour: fn(&[u32], u32, u32, bool, &mut [u32]) -> Told,
     pub slab: fn(&[u32], u32, u32, &mut [u32]) -> Told,
     pub slab_of: fn(&[u32], u32, u32, &mut [u32]) -> Told,
+    pub slabs_of: ProbeCall,
     pub tile_number: fn(&[u32], &[u32], &mut [u32]) -> Told,
     pub tile_position: fn(&[u32], u32, &mut [u32]) -> Told,
     pub step: StepCall,
@@ -37,7 +39,8 @@ pub struct Subject {
 }
 
 /// The rival: the paper's enumeration (Figure 2, one factor inside the other), the two older layouts by their
-/// formulas, the questions with the same checks, the timetable by the same method, and the fastest chains.
+/// formulas, the questions with the same checks, probe lines and the timetable by the same method, and the fastest
+/// chains.
 pub const RIVAL: Subject = Subject {
     name: "rival",
     plan: planning::figure_2_nested,
@@ -47,6 +50,7 @@ pub const RIVAL: Subject = Subject {
     neighbour: questions::neighbour,
     slab: questions::slab,
     slab_of: questions::slab_of,
+    slabs_of: probes::slabs_of,
     tile_number: questions::tile_number,
     tile_position: questions::tile_position,
     step: questions::step,

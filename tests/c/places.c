@@ -15,6 +15,7 @@ uint64_t multipartition_hypercube_owner(uint32_t, const uint32_t *, size_t, uint
 uint64_t multipartition_neighbour(const uint32_t *, size_t, uint32_t, uint32_t, uint32_t, uint32_t *, size_t);
 uint64_t multipartition_slab(const uint32_t *, size_t, uint32_t, uint32_t, uint32_t *, size_t);
 uint64_t multipartition_slab_of(const uint32_t *, size_t, uint32_t, uint32_t, uint32_t *, size_t);
+uint64_t multipartition_slabs_of(const uint32_t *, size_t, uint32_t, const uint32_t *, size_t, uint32_t *, size_t);
 uint64_t multipartition_tile_number(const uint32_t *, size_t, const uint32_t *, size_t, uint32_t *, size_t);
 uint64_t multipartition_tile_position(const uint32_t *, size_t, uint32_t, uint32_t *, size_t);
 uint64_t multipartition_step(const uint32_t *, size_t, const uint32_t *, size_t, uint32_t, uint32_t, uint32_t *, size_t);
@@ -153,6 +154,29 @@ static void thick_slabs_first(const uint32_t *plan)
             EXPECT(multipartition_slab_of(plan, n, 4, edges[i][end] - (uint32_t)end, ready(answer), MULTIPARTITION_SLAB_OF_LENGTH), 0);
             EXPECT(answer[MULTIPARTITION_SLAB_OF], slabs[i]);
         }
+    }
+}
+
+/* Probe lines along each dimension: the first and the last element of every slab, and those of the dimension. Places past the line are kept. */
+static void probe_lines(const uint32_t *plan)
+{
+    static uint32_t ends[2 * 420], slabs[ROOM + 2 * 420];
+    for (uint32_t k = 0; k < D; k++) {
+        const size_t count = 2 * planned.cuts[k];
+        for (uint32_t slab = 0; slab < planned.cuts[k]; slab++) {
+            EXPECT(multipartition_slab(plan, MULTIPARTITION_PLAN_LENGTH, k + 1, slab, ends + 2 * slab, MULTIPARTITION_SLAB_LENGTH), 0);
+            ends[2 * slab + 1]--;
+        }
+        ready(slabs + count);
+        EXPECT(multipartition_slabs_of(plan, MULTIPARTITION_PLAN_LENGTH, k + 1, ends, count, slabs, count + ROOM), 0);
+        for (uint32_t i = 0; i < count; i++)
+            expect("the slab of a probe", slabs[i], i / 2);
+        for (uint32_t i = 0; i < ROOM; i++)
+            expect("a place past the line", slabs[count + i], SPARE + i);
+        const uint32_t far[2] = {0, planned.extents[k] - 1};
+        EXPECT(multipartition_slabs_of(plan, MULTIPARTITION_PLAN_LENGTH, k + 1, far, 2, slabs, 2), 0);
+        expect("the slab of the first element", slabs[0], 0);
+        expect("the slab of the last element", slabs[1], planned.cuts[k] - 1);
     }
 }
 
@@ -326,11 +350,13 @@ static void step_lengths(void)
         expect("a coordinate of three", answer[MULTIPARTITION_STEP_POSITION + k], up[k]);
 }
 
-/* The highest place that a refusal has: the last extent or the last thickness is 0. */
-static void refusal_place(void)
+/* Places of refusals: the last extent or the last thickness is 0, or the last probe of many is smaller than the one before. */
+static void refusal_places(void)
 {
+    enum { MANY = 70000 };
     const size_t n = MULTIPARTITION_PLAN_LENGTH;
     const uint32_t eights[D] = {8, 8, 8, 8, 8}, last_bad[D] = {8, 8, 8, 8, 0};
+    static uint32_t elements[MANY], slabs[MANY];
     uint32_t plan[ROOM];
     const uint64_t extent = multipartition_plan(4, D, last_bad, D, planned.weights, D, nothing, 0, ready(plan), n);
     const uint64_t thickness = multipartition_plan(4, D, eights, D, planned.weights, D, last_bad, D, ready(plan), n);
@@ -338,6 +364,12 @@ static void refusal_place(void)
     EXPECT(multipartition_place_of(extent), 5);
     EXPECT(multipartition_number_of(thickness), MULTIPARTITION_BAD_THICKNESS);
     EXPECT(multipartition_place_of(thickness), 5);
+    EXPECT(multipartition_plan(4, D, eights, D, planned.weights, D, nothing, 0, ready(plan), n), 0);
+    for (size_t i = 0; i < MANY; i++)
+        elements[i] = i + 1 < MANY ? 7 : 6;
+    const uint64_t fall = multipartition_slabs_of(plan, n, 1, elements, MANY, slabs, MANY);
+    EXPECT(multipartition_number_of(fall), MULTIPARTITION_NOT_RISING);
+    EXPECT(multipartition_place_of(fall), MANY);
 }
 
 int main(void)
@@ -346,13 +378,14 @@ int main(void)
     plan_places(plan, multipartition_plan, &planned);
     answer_places(plan);
     thick_slabs_first(plan);
+    probe_lines(plan);
     thick_enough(plan);
     least_thicknesses();
     step_places(plan);
     step_lengths();
     timetable_places();
     largest_length();
-    refusal_place();
+    refusal_places();
     plan_by_hand();
     chain_lists();
     diagonal_places();

@@ -221,6 +221,80 @@ static void hypercubes(void)
     }
 }
 
+/* ---- probe lines */
+
+/* A probe line that is refused, or has no elements: nothing is written. */
+static void probe_line(const char *what, const uint32_t *plan, size_t length, uint32_t dimension, const uint32_t *elements, size_t elements_length,
+                       size_t slabs_length, enum multipartition_number number, uint32_t place)
+{
+    uint32_t *list = copied(plan, MULTIPARTITION_PLAN_LENGTH, length);
+    uint32_t *line = copied(elements, elements_length, elements_length);
+    uint32_t *slabs = filled(slabs_length, KEPT);
+    expect(what, multipartition_slabs_of(list, length, dimension, line, elements_length, slabs, slabs_length), number, place);
+    if (memcmp(line, elements, elements_length * sizeof *line) != 0) {
+        printf("%s: an element was written\n", what);
+        failures++;
+    }
+    expect_kept(what, slabs, slabs_length);
+    free(line);
+    free(list);
+}
+
+/* Refusals of a probe line, each where all later ones apply too, and each without them. The plan has 8 elements in 2 slabs in each dimension. */
+static void probe_lines(const uint32_t *plan)
+{
+    const size_t n = MULTIPARTITION_PLAN_LENGTH;
+    const uint32_t rising[5] = {1, 2, 2, 3, 7}, falling[5] = {1, 2, 2, 1, 0}, beyond[5] = {5, 3, 2, 1, 8}, far[5] = {UINT32_MAX, 7, 7, 6, 0};
+    const uint32_t pair[2] = {7, 6};
+    uint32_t *other = copied(plan, n, n);
+    other[MULTIPARTITION_KIND] = 2;
+    probe_line("probes of a plan of another kind", other, n, 4, beyond, 5, 4, MULTIPARTITION_BAD_PLAN, 0);
+    probe_line("probes of a plan of another kind", other, n, 3, rising, 5, 5, MULTIPARTITION_BAD_PLAN, 0);
+    probe_line("no probes of a plan of another kind", other, n, 3, rising, 0, 0, MULTIPARTITION_BAD_PLAN, 0);
+    free(other);
+    probe_line("probes of a plan list without a kind", plan, 49, 4, beyond, 5, 4, MULTIPARTITION_BAD_PLAN, 0);
+    probe_line("probes of a plan list without thicknesses", plan, 50, 4, beyond, 5, 4, MULTIPARTITION_BAD_PLAN, 0);
+    probe_line("probes of a plan list too long", plan, n + 1, 3, rising, 5, 5, MULTIPARTITION_BAD_PLAN, 0);
+    probe_line("probes along dimension 0", plan, n, 0, beyond, 5, 4, MULTIPARTITION_BAD_DIMENSION, 0);
+    probe_line("probes along dimension 4", plan, n, 4, falling, 5, 5, MULTIPARTITION_BAD_DIMENSION, 0);
+    probe_line("no probes along dimension 4", plan, n, 4, rising, 0, 0, MULTIPARTITION_BAD_DIMENSION, 0);
+    for (uint32_t k = 1; k <= 3; k++) {
+        probe_line("last probe out of range", plan, n, k, beyond, 5, 4, MULTIPARTITION_OUT_OF_RANGE, 0);
+        probe_line("last probe out of range", plan, n, k, beyond, 5, 6, MULTIPARTITION_OUT_OF_RANGE, 0);
+        probe_line("first probe out of range", plan, n, k, far, 5, 0, MULTIPARTITION_OUT_OF_RANGE, 0);
+        probe_line("one probe, out of range", plan, n, k, far, 1, 1, MULTIPARTITION_OUT_OF_RANGE, 0);
+        probe_line("too few places for a line that falls", plan, n, k, falling, 5, 4, MULTIPARTITION_BAD_ANSWER_LENGTH, 0);
+        probe_line("too few places for a line that rises", plan, n, k, rising, 5, 4, MULTIPARTITION_BAD_ANSWER_LENGTH, 0);
+        probe_line("no place for one probe", plan, n, k, rising, 1, 0, MULTIPARTITION_BAD_ANSWER_LENGTH, 0);
+        probe_line("the fourth probe falls", plan, n, k, falling, 5, 5, MULTIPARTITION_NOT_RISING, 4);
+        probe_line("the fourth probe falls", plan, n, k, falling, 5, 9, MULTIPARTITION_NOT_RISING, 4);
+        probe_line("the second probe falls", plan, n, k, beyond, 4, 4, MULTIPARTITION_NOT_RISING, 2);
+        probe_line("the last probe falls", plan, n, k, pair, 2, 2, MULTIPARTITION_NOT_RISING, 2);
+        probe_line("no probes, and nothing written", plan, n, k, rising, 0, 3, MULTIPARTITION_ANSWERED, 0);
+        probe_line("no probes and no places", plan, n, k, rising, 0, 0, MULTIPARTITION_ANSWERED, 0);
+    }
+}
+
+/* Slabs go to the front of the list, and what stands behind them is kept. */
+static void front_only(const uint32_t *plan)
+{
+    const uint32_t elements[5] = {1, 3, 4, 4, 7}, in_slabs[5] = {0, 0, 1, 1, 1};
+    for (size_t count = 0; count <= 5; count++) {
+        uint32_t *line = copied(elements, count, count);
+        uint32_t *slabs = filled(8, KEPT);
+        expect("a probe line", multipartition_slabs_of(plan, MULTIPARTITION_PLAN_LENGTH, 2, line, count, slabs, 8), MULTIPARTITION_ANSWERED, 0);
+        for (size_t i = 0; i < count; i++) {
+            if (slabs[i] != in_slabs[i]) {
+                printf("a probe line: slab %zu is %" PRIu32 ", not %" PRIu32 "\n", i, slabs[i], in_slabs[i]);
+                failures++;
+            }
+            slabs[i] = KEPT;
+        }
+        expect_kept("behind a probe line", slabs, 8);
+        free(line);
+    }
+}
+
 /* ---- questions */
 
 /* A question: the numbers, the length of the position, and that of the answer lists. The slab is also the step of a sweep. */
@@ -320,9 +394,11 @@ static void chain_lists(const char *what, const uint32_t *plan, size_t length, s
 static void out_of_shape(const uint32_t *plan, size_t place, uint32_t number)
 {
     const struct question good = {3, 3, 1, 7, 8, 1, 3, 2};
+    const uint32_t first_two[2] = {0, 1};
     uint32_t *changed = copied(plan, MULTIPARTITION_PLAN_LENGTH, MULTIPARTITION_PLAN_LENGTH);
     changed[place] = number;
     questions("out of shape", changed, MULTIPARTITION_PLAN_LENGTH, good, MULTIPARTITION_BAD_PLAN, MULTIPARTITION_BAD_PLAN);
+    probe_line("out of shape", changed, MULTIPARTITION_PLAN_LENGTH, 1, first_two, 2, 2, MULTIPARTITION_BAD_PLAN, 0);
     chain_lists("out of shape", changed, MULTIPARTITION_PLAN_LENGTH, 4, 8, MULTIPARTITION_BAD_PLAN);
     free(changed);
 }
@@ -418,6 +494,10 @@ int main(void)
     plan_lists(plan, diagonal_plan);
     too_thick(plan, diagonal_plan);
     out_of_range(plan);
+    probe_lines(plan);
+    probe_lines(diagonal_plan);
+    front_only(plan);
+    front_only(diagonal_plan);
     thick_enough(plan);
     chain_lists("plan list without a kind", plan, 49, 4, 8, MULTIPARTITION_BAD_PLAN);
     chain_lists("plan list without thicknesses", plan, 50, 4, 8, MULTIPARTITION_BAD_PLAN);

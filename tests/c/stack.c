@@ -14,11 +14,12 @@
 
 #include "multipartition.h"
 
-enum { THREAD = 1 << 16, GUARD = 1 << 20, UNUSED = 0xA5, MOST = 5, N = MULTIPARTITION_PLAN_LENGTH };
+enum { THREAD = 1 << 16, GUARD = 1 << 20, UNUSED = 0xA5, MOST = 5, PROBES = 1000, N = MULTIPARTITION_PLAN_LENGTH };
 
 static uint32_t plan[N], swept[N], diagonal[N];
 static uint32_t position[MOST];
 static uint32_t answer[MULTIPARTITION_TIMETABLE_LENGTH];
+static uint32_t elements[PROBES], slabs[PROBES];
 static uint32_t *heads, *nexts;
 static size_t tiles;
 
@@ -66,6 +67,8 @@ static void plan_one(void)
         tiles *= plan[MULTIPARTITION_CUTS + k];
         position[k] = plan[MULTIPARTITION_CUTS + k] - 1;
     }
+    for (uint32_t i = 0; i < PROBES; i++)
+        elements[i] = (i + 1) * (extents[0] / PROBES) - 1;
 }
 
 static void ask_owner(void)
@@ -95,6 +98,13 @@ static void ask_slab(void)
 static void ask_slab_of(void)
 {
     check(multipartition_slab_of(plan, N, MOST, 999999, answer, MULTIPARTITION_SLAB_OF_LENGTH));
+}
+
+/* Along every dimension, to its last element. */
+static void ask_slabs_of(void)
+{
+    for (uint32_t k = 1; k <= MOST; k++)
+        check(multipartition_slabs_of(plan, N, k, elements, PROBES, slabs, PROBES));
 }
 
 static void ask_tile_number(void)
@@ -187,6 +197,7 @@ int main(void)
     within("neighbour", MULTIPARTITION_QUESTION_STACK, ask_neighbour);
     within("slab", MULTIPARTITION_QUESTION_STACK, ask_slab);
     within("slab of", MULTIPARTITION_QUESTION_STACK, ask_slab_of);
+    within("slabs of", MULTIPARTITION_QUESTION_STACK, ask_slabs_of);
     within("tile number", MULTIPARTITION_QUESTION_STACK, ask_tile_number);
     within("tile position", MULTIPARTITION_QUESTION_STACK, ask_tile_position);
     within("step", MULTIPARTITION_QUESTION_STACK, ask_step);

@@ -104,20 +104,30 @@ swap BAD_THICKNESS NO_CUTS
 swap BAD_THICKNESS UNSUITED
 swap BAD_DIMENSION OUT_OF_RANGE
 swap OUT_OF_RANGE OTHER_EXTENTS
+swap OUT_OF_RANGE NOT_RISING
+swap BAD_ANSWER_LENGTH NOT_RISING
+swap BAD_THICKNESS NOT_RISING
 wrong 'a step has one place more' 's/\(STEP_LENGTH(dimensions)\) (/\1 (1 + /'
 wrong 'number from the upper half' 's/returned & UINT32_MAX/returned >> 32/'
 wrong 'place from the lower half' 's/returned >> 32/returned/'
 wrong 'place from two bits' 's/(uint32_t)(returned >> 32)/(uint32_t)(returned >> 32 \& 3)/'
+wrong 'place from sixteen bits' 's/(uint32_t)(returned >> 32)/(uint32_t)(returned >> 32 \& 65535)/'
 wrong 'the sum of a step without parentheses' 's/\(STEP_LENGTH(dimensions)\) (\(.*\))$/\1 \2/'
 wrong 'the dimensions of a step without parentheses' 's/STEP_POSITION + (dimensions)/STEP_POSITION + dimensions/'
 wrong 'a step always has six places' 's/STEP_POSITION + (dimensions)/STEP_POSITION + 0 * (dimensions) + 5/'
 wrong 'answer lengths of 32 bits' 's/size_t answer_length/uint32_t answer_length/'
 wrong 'plan lengths with a sign' 's/size_t plan_length/int plan_length/'
 wrong 'lengths of least thicknesses of 32 bits' 's/size_t least_length/uint32_t least_length/'
+wrong 'lengths of elements of 32 bits' 's/size_t elements_length/uint32_t elements_length/'
+wrong 'lengths of slabs with a sign' 's/size_t slabs_length/int slabs_length/'
+wrong 'no length of elements' 's/const uint32_t \*elements, size_t elements_length/const uint32_t *elements/'
+wrong 'elements that may be written' 's/const \(uint32_t \*elements\)/\1/'
+wrong 'slabs that may not be written' 's/\(uint32_t \*slabs\)/const \1/'
+wrong 'slabs before elements' 's/const \(uint32_t \*\)elements/\1slabs/; t; s/\(uint32_t \*\)slabs/const \1elements/'
 wrong 'no least thicknesses' '/size_t least_length,$/d'
 wrong 'processors of the diagonal layout of 64 bits' 's/\(multipartition_diagonal(\)uint32_t/\1uint64_t/'
 wrong 'processors of the hypercube of 64 bits' 's/\(multipartition_hypercube_owner(\)uint32_t/\1uint64_t/'
-for call in plan diagonal owner hypercube_owner neighbour slab slab_of tile_number tile_position step timetable chains; do
+for call in plan diagonal owner hypercube_owner neighbour slab slab_of slabs_of tile_number tile_position step timetable chains; do
     wrong "$call returns 32 bits" "s/^uint64_t \(multipartition_$call(\)/uint32_t \1/"
 done
 

@@ -74,6 +74,16 @@ extern "C" {
         answer_length: usize,
     ) -> u64;
 
+    fn multipartition_slabs_of(
+        plan: *const u32,
+        plan_length: usize,
+        dimension: u32,
+        elements: *const u32,
+        elements_length: usize,
+        slabs: *mut u32,
+        slabs_length: usize,
+    ) -> u64;
+
     fn multipartition_tile_number(
         plan: *const u32,
         plan_length: usize,
@@ -232,6 +242,20 @@ pub fn slab_of(plan: &[u32], dimension: u32, element: u32, answer: &mut [u32]) -
             element,
             answer.as_mut_ptr(),
             answer.len(),
+        )
+    }
+}
+
+pub fn slabs_of(plan: &[u32], dimension: u32, elements: &[u32], slabs: &mut [u32]) -> u64 {
+    unsafe {
+        multipartition_slabs_of(
+            plan.as_ptr(),
+            plan.len(),
+            dimension,
+            elements.as_ptr(),
+            elements.len(),
+            slabs.as_mut_ptr(),
+            slabs.len(),
         )
     }
 }

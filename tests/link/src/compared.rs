@@ -3,7 +3,7 @@
 use oracle::plan::{Job, Plan};
 use oracle::refusal::{self, Refusal};
 use oracle::timetable::{self, Message};
-use oracle::{chains, hypercube, neighbours, owners, slabs, tiles};
+use oracle::{chains, hypercube, neighbours, owners, probes, slabs, tiles};
 
 use crate::calls;
 use crate::guarded::Guarded;
@@ -193,5 +193,28 @@ pub fn chain(lists: &mut Lists, list: &[u32], heads: &[u32], nexts: &[u32]) -> u
         ),
         "the chains of {list:?}"
     );
+    returned
+}
+
+/// Asks for the slabs of a probe line, likewise. The plan list and the elements keep their contents.
+pub fn probe(
+    lists: &mut Lists,
+    list: &[u32],
+    dimension: u32,
+    elements: &[u32],
+    lent: &[u32],
+) -> u64 {
+    let mut expected = lent.to_vec();
+    let answered = plan_of(list)
+        .ok_or(refusal::SHAPE)
+        .and_then(|plan| probes::slabs_of(&plan, dimension, elements, &mut expected));
+    let [given_list, given, slabs] = lists.hold([list, elements, lent]);
+    let returned = calls::slabs_of(given_list, dimension, given, slabs);
+    assert_eq!(
+        (returned, slabs.to_vec()),
+        (answered.map_or_else(code, |()| 0), expected),
+        "{elements:?} along {dimension} of {list:?}"
+    );
+    assert_eq!((&*given_list, &*given), (list, elements));
     returned
 }

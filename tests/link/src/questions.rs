@@ -341,6 +341,16 @@ fn place_of(dimension: u32) -> usize {
     (dimension as usize).clamp(1, 5) - 1
 }
 
+/// A dimension of a list, or, once in a while, none of it.
+fn dimension(random: &mut Random, list: &[u32]) -> u32 {
+    let d = dimensions(list) as u32;
+    if random.once_in(12) {
+        another(random, d)
+    } else {
+        random.between(1, u64::from(d.max(1))) as u32
+    }
+}
+
 /// A direction: down, or one of the numbers that say up.
 fn up(random: &mut Random) -> u32 {
     *random.pick(&[0, 0, 1, 1, 2, u32::MAX])
@@ -348,12 +358,7 @@ fn up(random: &mut Random) -> u32 {
 
 /// A question about the plan of a list, as if the list were in order.
 pub fn question(random: &mut Random, list: &[u32]) -> Question {
-    let d = dimensions(list) as u32;
-    let dimension = if random.once_in(12) {
-        another(random, d)
-    } else {
-        random.between(1, u64::from(d.max(1))) as u32
-    };
+    let dimension = dimension(random, list);
     let k = place_of(dimension);
     let up = up(random);
     match random.between(0, 7) {
@@ -398,6 +403,67 @@ pub fn lent(random: &mut Random, places: usize) -> Vec<u32> {
     any_numbers(random, length)
 }
 
+/// A dimension of a list and a probe line of so many elements along it, as if the list were in order. Most lines rise;
+/// of the others one element is smaller than the one before or out of range, or both are found.
+pub fn probe_line(random: &mut Random, list: &[u32], length: usize) -> (u32, Vec<u32>) {
+    let dimension = dimension(random, list);
+    let k = place_of(dimension);
+    let extent = place(list, EXTENTS + k).clamp(1, 1_000_000);
+    let cut = place(list, CUTS + k).clamp(1, extent);
+    let mut elements = rising(random, extent, cut, length);
+    if random.once_in(3) {
+        lower(random, &mut elements);
+    }
+    if length > 0 && random.once_in(6) {
+        let at = random.between(0, length as u64 - 1) as usize;
+        elements[at] = *random.pick(&[extent, extent + 1, 1 << 31, u32::MAX]);
+    }
+    (dimension, elements)
+}
+
+/// Elements of a dimension that rise: anywhere in it, or just beside an edge between two of its slabs, or at its ends.
+/// The latter have many equal neighbours.
+fn rising(random: &mut Random, extent: u32, cut: u32, length: usize) -> Vec<u32> {
+    let slab = random.between(0, u64::from(cut)) as u32;
+    let edge = slab * (extent / cut) + slab.min(extent % cut);
+    let kind = random.between(0, 2);
+    let mut elements: Vec<u32> = (0..length)
+        .map(|_| match kind {
+            0 => random.between(0, u64::from(extent) - 1) as u32,
+            1 => (edge + random.between(0, 4) as u32).saturating_sub(2),
+            _ => *random.pick(&[0, 1, extent - 1]),
+        })
+        .map(|element| element.min(extent - 1))
+        .collect();
+    elements.sort();
+    elements
+}
+
+/// Makes an element smaller than the one before, if that is not 0: half of the time the last one.
+fn lower(random: &mut Random, elements: &mut [u32]) {
+    let Some(last @ 1..) = elements.len().checked_sub(1) else {
+        return;
+    };
+    let any = random.between(1, last as u64) as usize;
+    let at = *random.pick(&[any, last]);
+    if let Some(most) = elements[at - 1].checked_sub(1) {
+        let less = random.between(0, u64::from(most)) as u32;
+        elements[at] = *random.pick(&[less, most]);
+    }
+}
+
+/// A list to lend for the slabs of so many elements: as long, longer or, once in a while, shorter.
+pub fn lent_to_probes(random: &mut Random, count: usize) -> Vec<u32> {
+    let length = match random.between(0, 9) {
+        0..=3 => count,
+        4..=5 => count + 1,
+        6..=7 => count + random.between(2, 9) as usize,
+        8 => random.between(0, count as u64) as usize,
+        _ => count.saturating_sub(1),
+    };
+    any_numbers(random, length)
+}
+
 #[cfg(test)]
 mod tests {
     use super::*;
@@ -428,6 +494,34 @@ mod tests {
             }
         }
         let counts = [fits, too_thick, wrapped];
+        assert!(counts.iter().all(|&count| count > 2_000), "{counts:?}");
+    }
+
+    /// Lines that rise, with and without equal neighbours, that fall, and that leave the dimension.
+    #[test]
+    fn probe_lines() {
+        let mut random = Random::new(3);
+        let (mut strictly, mut equal, mut falls, mut outside) = (0, 0, 0, 0);
+        for _ in 0..20_000 {
+            let plan = made_by_hand(&mut random);
+            let length = random.between(2, 9) as usize;
+            let (dimension, elements) = probe_line(&mut random, &list_of(&plan), length);
+            assert_eq!(elements.len(), length);
+            let Ok(k) = plan.check_dimension(dimension) else {
+                continue;
+            };
+            let neighbours = || elements.windows(2);
+            if elements.iter().any(|&element| element >= plan.extents[k]) {
+                outside += 1;
+            } else if neighbours().any(|pair| pair[0] > pair[1]) {
+                falls += 1;
+            } else if neighbours().any(|pair| pair[0] == pair[1]) {
+                equal += 1;
+            } else {
+                strictly += 1;
+            }
+        }
+        let counts = [strictly, equal, falls, outside];
         assert!(counts.iter().all(|&count| count > 2_000), "{counts:?}");
     }
 }

@@ -5,14 +5,15 @@ use std::collections::{BTreeMap, HashMap};
 use std::mem::discriminant;
 
 use link::calls;
-use link::compared::{ask, chain, diagonal, hypercube_owner, plan, Lists, Planner};
+use link::compared::{ask, chain, diagonal, hypercube_owner, plan, probe, Lists, Planner};
 use link::guarded::ROOM;
 use link::plan_list::{
     list_of, plan_of, PlanList, COST_HIGH, COST_LOW, CUTS, DIMENSIONS, KIND, LEAST, PLAN_LENGTH,
 };
 use link::questions::{
-    any_numbers, diagonals, dimensions, hypercube, job, job_for_diagonal, lent, made_by_hand,
-    move_to_limit, plan_list, planned, question, tiles_in_slab, timetable, Question,
+    any_numbers, diagonals, dimensions, hypercube, job, job_for_diagonal, lent, lent_to_probes,
+    made_by_hand, move_to_limit, plan_list, planned, probe_line, question, tiles_in_slab,
+    timetable, Question,
 };
 use oracle::plan::{Job, Plan, DIAGONAL};
 use oracle::random::Random;
@@ -518,6 +519,90 @@ fn chain_lists() {
     seen.check(&[0, 6, 9], 500);
 }
 
+/// Probe lines of no element, of one, and of some, of which many fall or leave the dimension, and lists to lend that
+/// are shorter, as long and longer.
+#[test]
+fn probe_lines() {
+    let mut random = Random::new(13);
+    let pool = pool(&mut random);
+    let mut lists = Lists::default();
+    let mut seen = [(); 3].map(|()| Seen::default());
+    for _ in 0..200_000 {
+        let list = plan_list(&mut random, &pool);
+        for length in [0, 1, random.between(2, 12) as usize] {
+            let (dimension, elements) = probe_line(&mut random, &list, length);
+            let lent = lent_to_probes(&mut random, length);
+            let returned = probe(&mut lists, &list, dimension, &elements, &lent);
+            seen[length.min(2)].note(returned);
+        }
+    }
+    let [none, one, some] = seen;
+    none.check(&[0, 6, 7], 5_000);
+    one.check(&[0, 6, 7, 8, 9], 5_000);
+    some.check(&[0, 6, 7, 8, 9, 14], 5_000);
+}
+
+/// Probe lines of thousands of elements, in plans in shape.
+#[test]
+fn long_probe_lines() {
+    let mut random = Random::new(14);
+    let pool = pool(&mut random);
+    let mut lists = Lists::default();
+    let mut seen = Seen::default();
+    for _ in 0..1_000 {
+        let (plan, _) = in_shape(&mut random, &pool);
+        let length = random.between(1_000, 10_000) as usize;
+        let list = list_of(&plan);
+        let (dimension, elements) = probe_line(&mut random, &list, length);
+        let lent = lent_to_probes(&mut random, length);
+        seen.note(probe(&mut lists, &list, dimension, &elements, &lent));
+    }
+    seen.check(&[0, 7, 8, 9, 14], 20);
+}
+
+/// A line of one element is answered, and refused, as the single question about it.
+#[test]
+fn lines_of_one_element() {
+    let mut random = Random::new(15);
+    let pool = pool(&mut random);
+    let mut seen = Seen::default();
+    for _ in 0..200_000 {
+        let list = plan_list(&mut random, &pool);
+        let (dimension, line) = probe_line(&mut random, &list, 1);
+        let places = random.between(0, 1) as usize;
+        let (mut single, mut slabs) = (vec![77; places], vec![77; places]);
+        let returned = calls::slab_of(&list, dimension, line[0], &mut single);
+        let same = calls::slabs_of(&list, dimension, &line, &mut slabs);
+        assert_eq!((same, &slabs), (returned, &single), "{line:?} of {list:?}");
+        seen.note(returned);
+    }
+    seen.check(&[0, 6, 7, 8, 9], 5_000);
+}
+
+/// Every element of a long line is answered as the single question about it, all through the link.
+#[test]
+fn lines_as_single_questions() {
+    let mut random = Random::new(16);
+    let pool = pool(&mut random);
+    let mut asked = 0;
+    while asked < 2_000_000 {
+        let (plan, _) = in_shape(&mut random, &pool);
+        let list = list_of(&plan);
+        let length = random.between(1, 3_000) as usize;
+        let (dimension, elements) = probe_line(&mut random, &list, length);
+        let mut slabs = vec![77; length];
+        if calls::slabs_of(&list, dimension, &elements, &mut slabs) != 0 {
+            continue;
+        }
+        for (&element, &slab) in elements.iter().zip(&slabs) {
+            let mut answer = [77];
+            let returned = calls::slab_of(&list, dimension, element, &mut answer);
+            assert_eq!((returned, answer), (0, [slab]), "{element} of {list:?}");
+            asked += 1;
+        }
+    }
+}
+
 /// Lists of any numbers and of every length up to twice a plan's.
 #[test]
 fn lists_of_every_length() {
@@ -537,6 +622,8 @@ fn lists_of_every_length() {
             let any = any_numbers(&mut random, length);
             ask(&mut lists, &list, &question, &any);
             chain(&mut lists, &list, &any, &any);
+            let (dimension, elements) = probe_line(&mut random, &list, 5);
+            probe(&mut lists, &list, dimension, &elements, &any);
         }
     }
 }

@@ -2,8 +2,8 @@
 //! alone.
 
 use link::calls::{
-    chains, diagonal, hypercube_owner, neighbour, owner, plan, slab, slab_of, step, tile_number,
-    tile_position, timetable,
+    chains, diagonal, hypercube_owner, neighbour, owner, plan, slab, slab_of, slabs_of, step,
+    tile_number, tile_position, timetable,
 };
 use link::compared::Planner;
 use link::plan_list::{
@@ -190,6 +190,9 @@ fn no_plan(list: &[u32]) {
     refused::<2>(6, |answer| neighbour(list, 0, 1, 1, answer));
     refused::<2>(6, |answer| slab(list, 1, 0, answer));
     refused::<1>(6, |answer| slab_of(list, 1, 0, answer));
+    refused::<3>(6, |slabs| slabs_of(list, 1, &[0, 1], slabs));
+    refused::<0>(6, |slabs| slabs_of(list, 1, &[], slabs));
+    refused::<1>(6, |slabs| slabs_of(list, 0, &[9, 0], slabs));
     refused::<1>(6, |answer| tile_number(list, &[0; 3], answer));
     refused::<3>(6, |answer| tile_position(list, 1, answer));
     refused::<4>(6, |answer| step(list, &[0; 3], 1, 1, answer));
@@ -338,6 +341,87 @@ fn seven_before_eight_before_nine() {
     refused::<9>(9, |nexts| chains(&list, &mut [0; 4], nexts));
 }
 
+/// "An element out of range is an 8": wherever it stands, also as the only one, and in a line that falls; after 7.
+#[test]
+fn probes_out_of_range() {
+    let list = planned();
+    for elements in [&[][..], &[0], &[0, 7, 7], &[7, 0], &[8, 0]] {
+        for dimension in [0, 4, 5, u32::MAX] {
+            refused::<3>(7, |slabs| slabs_of(&list, dimension, elements, slabs));
+            refused::<0>(7, |slabs| slabs_of(&list, dimension, elements, slabs));
+        }
+    }
+    for number in [8, 9, 1 << 31, u32::MAX] {
+        for at in 0..5 {
+            for mut elements in [[1, 2, 2, 3, 7], [7, 3, 2, 2, 1]] {
+                elements[at] = number;
+                refused::<0>(8, |slabs| slabs_of(&list, 3, &elements, slabs));
+                refused::<4>(8, |slabs| slabs_of(&list, 3, &elements, slabs));
+                refused::<5>(8, |slabs| slabs_of(&list, 3, &elements, slabs));
+                refused::<9>(8, |slabs| slabs_of(&list, 3, &elements, slabs));
+            }
+        }
+        refused::<0>(8, |slabs| slabs_of(&list, 3, &[number], slabs));
+        refused::<1>(8, |slabs| slabs_of(&list, 3, &[number], slabs));
+    }
+}
+
+/// "14, an element smaller than the one before, with the place of the first such counted from 1, after 9; [...] a
+/// second list shorter than the first is a 9."
+#[test]
+fn probe_lines_that_fall() {
+    let list = planned();
+    for elements in [[1, 2, 2, 3, 7], [7, 3, 2, 2, 1], [7; 5]] {
+        refused::<0>(9, |slabs| slabs_of(&list, 3, &elements, slabs));
+        refused::<1>(9, |slabs| slabs_of(&list, 3, &elements, slabs));
+        refused::<4>(9, |slabs| slabs_of(&list, 3, &elements, slabs));
+    }
+    refused::<0>(9, |slabs| slabs_of(&list, 3, &[0], slabs));
+    // Each element but the first may be smaller, also where later ones are too.
+    for place in 2..=5 {
+        let at = place as usize - 1;
+        let mut once = [1, 2, 2, 3, 7];
+        once[at] = once[at - 1] - 1;
+        let mut further = once;
+        further[at..].fill(0);
+        for elements in [once, further] {
+            let fall = 14 | place << 32;
+            refused::<5>(fall, |slabs| slabs_of(&list, 3, &elements, slabs));
+            refused::<6>(fall, |slabs| slabs_of(&list, 3, &elements, slabs));
+        }
+    }
+}
+
+/// Whatever is wrong with a probe line, the first of 6, 7, 8, 9 and 14 is returned, and the list keeps its contents.
+#[test]
+fn six_before_seven_before_eight_before_nine_before_fourteen() {
+    const REFUSALS: [u64; 5] = [6, 7, 8, 9, 14 | 3 << 32];
+    for chosen in 1..1 << REFUSALS.len() {
+        let wrong = [0, 1, 2, 3, 4].map(|at| chosen >> at & 1 == 1);
+        let mut list = planned();
+        if wrong[0] {
+            list[KIND] = 2;
+        }
+        let dimension = if wrong[1] { 4 } else { 3 };
+        let last = if wrong[2] { 8 } else { 7 };
+        let third = if wrong[4] { 3 } else { 5 };
+        let elements = [0, 4, third, 6, last];
+        let first = wrong.iter().position(|&is| is).expect("something is wrong");
+        if wrong[3] {
+            refused::<4>(REFUSALS[first], |slabs| {
+                slabs_of(&list, dimension, &elements, slabs)
+            });
+        } else {
+            refused::<7>(REFUSALS[first], |slabs| {
+                slabs_of(&list, dimension, &elements, slabs)
+            });
+        }
+    }
+    let mut slabs = [77; 7];
+    assert_eq!(slabs_of(&planned(), 3, &[0, 4, 5, 6, 7], &mut slabs), 0);
+    assert_eq!(slabs, [0, 1, 1, 1, 1, 77, 77]);
+}
+
 /// The plan of a grid whose weights are 1.
 fn grid(p: u32, extents: &[u32]) -> PlanList {
     let mut list = [7; PLAN_LENGTH];
@@ -416,6 +500,7 @@ fn answers_of_the_first_example() {
     assert_eq!((neighbour(&list, 0, 2, 1, &mut two), two), (0, [1, 3]));
     assert_eq!((slab(&list, 3, 1, &mut two), two), (0, [4, 8]));
     assert_eq!((slab_of(&list, 3, 3, &mut one), one), (0, [0]));
+    assert_eq!((slabs_of(&list, 3, &[3, 4], &mut two), two), (0, [0, 1]));
     assert_eq!((tile_number(&list, &[1, 0, 1], &mut one), one), (0, [6]));
     let mut three = [77; 3];
     assert_eq!((tile_position(&list, 6, &mut three), three), (0, [1, 0, 1]));

@@ -1,15 +1,15 @@
-//! Document 01 with requests a to g of document 02, written down a second time in plain Rust, to
+//! Document 01 with requests a to h of document 02, written down a second time in plain Rust, to
 //! test the planner against.
 //!
 //! Everything here follows the definitions literally and prefers the slow and obvious way:
 //! the cuts are found by trying all that fit (or, where there are too many, all elementary
 //! partitionings of source document 001, Figure 2), the matrix is worked out over whole numbers
 //! and reduced at the end, chains are made from each processor's list of tiles (and beside that tile
-//! by tile, for the stages of request e), the timetable looks at every tile of a slab, and the place of
-//! refusal 10 is looked for beginning by beginning.
+//! by tile, for the stages of request e), the timetable looks at every tile of a slab, a probe line is
+//! answered element by element, and the place of refusal 10 is looked for beginning by beginning.
 //!
-//! The modules stand in document 01's order, the timetable and the two older layouts behind what they
-//! ask.
+//! The modules stand in document 01's order, the timetable, the two older layouts and the probe lines
+//! behind what they ask.
 
 pub mod numbers;
 pub mod refusal;
@@ -26,6 +26,7 @@ pub mod tiles;
 
 pub mod diagonal;
 pub mod hypercube;
+pub mod probes;
 pub mod timetable;
 
 pub mod print;

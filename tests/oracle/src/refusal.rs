@@ -36,9 +36,10 @@ pub const SHAPE: Refusal = Refusal::plain(6);
 /// Dimension not 1..d.
 pub const DIMENSION: Refusal = Refusal::plain(7);
 /// Slab, element, tile number, position coordinate or processor number out of range; also "a step not
-/// below bk" (document 02, b).
+/// below bk" (document 02, b), and "an element out of range" of a probe line (document 02, h).
 pub const RANGE: Refusal = Refusal::plain(8);
-/// A chain list of another length than stated.
+/// A chain list of another length than stated; also "a second list shorter than the first" (document 02,
+/// h).
 pub const LIST: Refusal = Refusal::plain(9);
 /// Unreadable line; the place is defined in "The printed plan".
 pub const TEXT: u32 = 10;
@@ -49,6 +50,9 @@ pub const LAYOUT: Refusal = Refusal::plain(12);
 /// "13, a thickness of 0 in a job, with the first such dimension as place, after 4 and before 5"
 /// (document 02, g).
 pub const THICKNESS: u32 = 13;
+/// "14, an element smaller than the one before, with the place of the first such counted from 1, after
+/// 9" (document 02, h).
+pub const NOT_RISING: u32 = 14;
 
 /// "d: 2 to 5."
 pub fn dimensions_in_range(d: u32) -> bool {
