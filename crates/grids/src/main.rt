@@ -1,4 +1,4 @@
-// Runs the grids of document 01 that are not starred, the examples beside its table, the slabs of document 02's request d, jobs of its requests f and g, and figures of the timetable, on the calls. What it prints is held to the file stdout.
+// Runs the grids of document 01 that are not starred, the examples beside its table, the slabs of document 02's request d, jobs of its requests f and g, probe lines, and figures of the timetable, on the calls. What it prints is held to the file stdout.
 // Each function writes its lines into a lent list from a place on, and answers the place after them.
 ghost use mathlib.Core.Path.{_≡_};
 ghost use lib.ListN.{length};
@@ -6,6 +6,7 @@ use chains::Chained;
 use layout::Plan;
 use libc::STDOUT_FILENO;
 use planner::Planned;
+use probes::Probed;
 use questions::Neighbour;
 use questions::Owner;
 use tiles::positions::Lookup;
@@ -104,6 +105,26 @@ fn put_slab_of(out: &mut [u8], at: usize, plan: Plan, dimension: usize, element:
             put_line(out, at, b"slab ", &number)
         }
         SlabNumber::Refused { number, place } => put_refused(out, at, number, place),
+    }
+}
+
+// A place that is below 100.
+fn small(place: usize) -> u32 {
+    if place < 100 {
+        return place as u32;
+    }
+    100
+}
+
+// The slabs of a probe line along dimension 1, in a list of nine 9s.
+fn put_probes(out: &mut [u8], at: usize, plan: Plan, elements: &[u32]) -> usize
+    ensures { λ r. ⌜ length (now (out .exit)) ≡ length (now (out .entry)) ⌝ }
+{
+    let mut slabs = [9u32; 9];
+    let probed = probes::slabs_of(plan, 1, elements, &mut slabs);
+    match probed {
+        Probed::Done => put_line(out, at, b"slabs ", &slabs),
+        Probed::Refused { number, place } => put_refused(out, at, number, small(place)),
     }
 }
 
@@ -446,6 +467,38 @@ fn put_thick(out: &mut [u8], at: usize) -> usize
     put_thick_job(out, next, 1, 3, &forties, &ones, &huge)
 }
 
+// Ten elements in 4 slabs: a line that rises, the empty one, and one that is longer than the second list.
+fn put_rising(out: &mut [u8], at: usize, plan: Plan) -> usize
+    ensures { λ r. ⌜ length (now (out .exit)) ≡ length (now (out .entry)) ⌝ }
+{
+    let line = [0u32, 2, 3, 5, 5, 6, 9, 9, 9, 9];
+    let mut next = put_probes(out, at, plan, &line[..7]);
+    next = put_probes(out, next, plan, &line[..0]);
+    put_probes(out, next, plan, &line)
+}
+
+// The same with lines that fall, at places 2 and 4, and one with an element out of range.
+fn put_falling(out: &mut [u8], at: usize, plan: Plan) -> usize
+    ensures { λ r. ⌜ length (now (out .exit)) ≡ length (now (out .entry)) ⌝ }
+{
+    let soon = [5u32, 3, 2];
+    let later = [1u32, 2, 2, 1, 0];
+    let outside = [5u32, 10, 3];
+    let mut next = put_probes(out, at, plan, &soon);
+    next = put_probes(out, next, plan, &later);
+    put_probes(out, next, plan, &outside)
+}
+
+fn put_probe_lines(out: &mut [u8], at: usize) -> usize
+    ensures { λ r. ⌜ length (now (out .exit)) ≡ length (now (out .entry)) ⌝ }
+{
+    let tens = [10u32, 10];
+    let ones = [1u32, 1];
+    let planned = planner::plan_job(4, 2, &tens, &ones, &ones);
+    let next = put_rising(out, at, planned.plan);
+    put_falling(out, next, planned.plan)
+}
+
 fn main() {
     let mut out = [0u8; 4096];
     let mut n = put_squares(&mut out, 0);
@@ -461,6 +514,7 @@ fn main() {
     n = put_uneven(&mut out, n);
     n = put_ties(&mut out, n);
     n = put_thick(&mut out, n);
+    n = put_probe_lines(&mut out, n);
     if n <= 4096 {
         let k = io::count(n as isize, &out);
         io::write_all(STDOUT_FILENO, &out[..k]);

@@ -2,12 +2,12 @@
 use mathlib.Core.Path.{_≡_, refl, ap, sym, _∙_}
 use mathlib.Core.Bool.{cond}
 use mathlib.Core.Logic.{⊎-elim}
-use Prim.Native.Nat.{ℕ, zero, suc, _+_, _/_, _%_, _≤_, _<_}
+use Prim.Native.Nat.{ℕ, suc, _+_, _/_, _%_, _≤_, _<_}
 use native.Mathlib.Nat.{div-le-self, eq-or-lt-of-le}
 use native.Mathlib.Numerals.{add-one}
 use native.Mathlib.Omega.{arith}
 use lib.Dec.{ltb}
-use Rattle.multipartition.specs.Slabs.{slabStart, slabEnd, slabOf, thickness}
+use Rattle.multipartition.specs.Slabs.{slabStart, slabOf, thickness}
 use Rattle.multipartition.proofs.Slabs.{slab-start-zero, slab-start-last, slab-end-is, slabs-in-order, slab-of-iff, slab-of-holds}
 use Rattle.probes.specs.declared.Edge.{Edge}
 use Rattle.probes.specs.Edges.{Split, Behind}

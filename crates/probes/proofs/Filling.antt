@@ -1,7 +1,7 @@
 -- The second list while it is filled from the front.
 use mathlib.Core.Path.{_≡_, refl, sym, ap, _∙_}
 use mathlib.Core.List.{List, [], _∷_, _++_, map, map-append}
-use Prim.Native.Nat.{ℕ, zero, suc, _+_, _≤_, _<_}
+use Prim.Native.Nat.{ℕ, suc, _+_, _<_}
 use native.Mathlib.Numerals.{add-one}
 use native.Mathlib.Omega.{arith}
 use lib.ListN.{length, getD, set, take, drop, length-map}
@@ -24,9 +24,9 @@ module _ (n b : ℕ) (elements lent : List ℕ) where
       let many : length front ≡ i = length-map (take i elements) f ∙ length-take-le i elements (omega arith) in
       let more : map f (take (suc i) elements) ≡ front ++ (slab ∷ []) = ap (map f) (take-suc elements i 0 l) ∙ map-append f (take i elements) _ ∙ rw e in
       ap (λ (back : List ℕ). set (front ++ back) i slab) (drop-cons lent i 0 m)
-          ∙ set-at front _ _ slab i many
-          ∙ sym (append-snoc front slab _)
-          ∙ rw (add-one i, more)
+      ∙ set-at front _ _ slab i many
+      ∙ sym (append-snoc front slab _)
+      ∙ rw (add-one i, more)
 
   pub filled-all : filled (length elements) ≡ slabsInto n b elements lent
   unfolding slabsInto

@@ -6,7 +6,7 @@ use mathlib.Core.Logic.{_↔_}
 use Prim.Native.Nat.{ℕ, zero, suc, _+_, _-_, _≤_, _<_}
 use native.Mathlib.Decide.{decLe}
 use native.Mathlib.Omega.{arith}
-use borrow.Author.Tests.{leb-true, le-leb, ltb-false, eqb-true, eq-eqb, not-false}
+use borrow.Author.Tests.{leb-true, le-leb, ltb-false, eqb-true, eq-eqb, ne-eqb, not-false}
 use lib.Dec.{leb, ltb, eqb}
 use lib.ListN.{length, getD, drop, length-append, length-drop, length-map, List·getD-append}
 use lib.Seq.{ext-getD, getD-append-add, getD-drop}
@@ -18,7 +18,7 @@ use Rattle.multipartition.proofs.Answers.{answers-iff}
 use Rattle.multipartition.proofs.BothWays.{slab-of-answered}
 use Rattle.probes.specs.Probes.{allWithin, firstFall, risingCheck, slabsInto, probesAnswer}
 use Rattle.probes.specs.Edges.{Rising}
-use Rattle.probes.proofs.Falls.{no-fall-iff}
+use Rattle.probes.proofs.Falls.{FallsFirst, first-fall-iff, no-fall-iff}
 use Rattle.probes.proofs.Ranges.{all-within-iff}
 
 -- a refusal as one of another answer
@@ -38,7 +38,7 @@ module _ (n b : ℕ) (elements lent : List ℕ) where
   unfolding slabsInto
   slabs-front i l =
       List·getD-append (map (slabOf n b) elements) (drop (length elements) lent) 0 i (rw (length-map elements (slabOf n b)) l)
-          ∙ getD-map (slabOf n b) elements i l
+      ∙ getD-map (slabOf n b) elements i l
 
   pub slabs-behind : (i : ℕ) → length elements ≤ i → getD (slabsInto n b elements lent) i 0 ≡ getD lent i 0
   unfolding slabsInto
@@ -49,15 +49,15 @@ module _ (n b : ℕ) (elements lent : List ℕ) where
       let here : i ≡ length front + past = omega (arith, length-map elements (slabOf n b)) in
       let there : length elements + past ≡ i = omega arith in
       ap (λ (j : ℕ). getD (front ++ back) j 0) here
-          ∙ getD-append-add front back past 0
-          ∙ getD-drop (length elements) lent past 0
-          ∙ ap (λ (j : ℕ). getD lent j 0) there
+      ∙ getD-append-add front back past 0
+      ∙ getD-drop (length elements) lent past 0
+      ∙ ap (λ (j : ℕ). getD lent j 0) there
 
   pub slabs-many : length elements ≤ length lent → length (slabsInto n b elements lent) ≡ length lent
   unfolding slabsInto
   slabs-many l =
       length-append (map (slabOf n b) elements) (drop (length elements) lent)
-          ∙ omega (arith, length-map elements (slabOf n b), length-drop (length elements) lent)
+      ∙ omega (arith, length-map elements (slabOf n b), length-drop (length elements) lent)
 
 -- ---- what it takes for a list to be answered
 
@@ -180,3 +180,20 @@ pub empty-answered : (plan : Layout) (k : ℕ) (lent : List ℕ) → inShape pla
     → probesAnswer plan k [] lent ≡ answered lent
 unfolding probesAnswer allWithin firstFall slabsInto
 empty-answered plan k lent shape dimension = rw (shape, dimension, le-leb 0 (length lent) (omega arith)) refl
+
+-- "with the place of the first such counted from 1": where nothing comes before it, a fall is refused with its place
+pub fall-refused : (plan : Layout) (k : ℕ) (elements lent : List ℕ) (i : ℕ) → inShape plan ≡ true → between 1 (plan .d) k ≡ true
+    → ((j : ℕ) → j < length elements → getD elements j 0 < extentOf plan k) → length elements ≤ length lent → FallsFirst elements i
+    → probesAnswer plan k elements lent ≡ refused 14 (i + 2)
+unfolding probesAnswer
+fall-refused plan k elements lent i shape dimension within long falls =
+    let place = first-fall-iff elements i .1 falls in
+    rw (
+      shape,
+      dimension,
+      all-within-iff (extentOf plan k) elements .1 within,
+      le-leb _ _ long,
+      place,
+      ne-eqb (i + 2) 0 (λ e. absurd (omega arith)),
+    )
+    refl

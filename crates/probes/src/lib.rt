@@ -4,7 +4,7 @@ use layout::Plan;
 use tiles::dimensions::has_dimension;
 use tiles::slabs::thickness;
 ghost use mathlib.Core.Path.{_≡_};
-ghost use Prim.Native.Nat.{suc, _+_, _<_, _≤_};
+ghost use Prim.Native.Nat.{_+_, _<_, _≤_};
 ghost use lib.Dec.{eqb};
 ghost use lib.ListN.{length};
 ghost use Rattle.multipartition.specs.Slabs.{slabStart, slabOf};

@@ -19,7 +19,7 @@ loop-holds c = (c .pre .0, c .pre .1, c .pre .2, c .pre .3)
 next-edge-requires : tie.Need-next-edge-requires Inv-loop μ-loop
 next-edge-requires c κs =
     let h = c .before .before .loop .inv in
-    (h .0, h .1, slab-follows _ _ _ _ (h .0) _ (h .1) _ (c .if1 .taken) (h .3))
+    (h .0, h .1, slab-follows _ _ _ _ (h .0) _ (h .1) _ (omega (arith, c .if1 .taken)) (h .3))
 
 loop-less : tie.Need-loop-less Inv-loop μ-loop
 loop-less c = omega (arith, c .next-edge .ensures .1, c .next-edge .ensures .0 .below)
@@ -27,7 +27,7 @@ loop-less c = omega (arith, c .next-edge .ensures .1, c .next-edge .ensures .0 .
 loop-again : tie.Need-loop-again Inv-loop μ-loop
 loop-again c =
     let h = c .before .before .before .loop .inv in
-    (h .0, c .next-edge .ensures .0, next-starts _ _ _ _ (h .0) _ (h .1) _ _ (c .next-edge .ensures .1) (c .before .if1 .taken), h .3)
+    (h .0, c .next-edge .ensures .0, next-starts _ _ _ _ (h .0) _ (h .1) _ _ (c .next-edge .ensures .1) (omega (arith, c .before .if1 .taken)), h .3)
 
 returns : tie.Need-returns Inv-loop μ-loop
 returns c =

@@ -1,7 +1,7 @@
 -- `fill` meets its contract. The loop's invariant: the slabs of the elements before place i stand, and the slab of the edge starts at the element at
 -- place i or before it.
-use mathlib.Core.Path.{_≡_, refl, sym, ap, _∙_}
-use Prim.Native.Nat.{_+_, _-_, _≤_, _<_}
+use mathlib.Core.Path.{_≡_, refl, _∙_}
+use Prim.Native.Nat.{_-_, _≤_, _<_}
 use native.Mathlib.Nat.{le-trans}
 use native.Mathlib.Numerals.{add-one}
 use native.Mathlib.Omega.{arith}
@@ -9,7 +9,7 @@ use borrow.Author.Needs.{needs}
 use lib.ListN.{length, getD, length-set}
 use Rattle.multipartition.specs.Slabs.{slabStart}
 use Rattle.multipartition.proofs.Slabs.{slab-start-zero}
-use Rattle.probes.specs.Edges.{Split, Behind, Rising}
+use Rattle.probes.specs.Edges.{Split, Behind}
 use Rattle.probes.proofs.Edges.{split-of, edge-first, slab-of-starts}
 use Rattle.probes.proofs.Filling.{filled, filled-none, filled-next, filled-all}
 use Rattle.probes.proofs.fill.Statement.{statement}

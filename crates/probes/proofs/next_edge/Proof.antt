@@ -1,7 +1,5 @@
 -- `next_edge` meets its contract.
 use mathlib.Core.Path.{refl}
-use Prim.Native.Nat.{_≤_}
-use native.Mathlib.Nat.{div-le-self}
 use native.Mathlib.Omega.{arith}
 use borrow.Author.Needs.{needs}
 use borrow.Author.Tests.{lt-ltb, le-ltb}

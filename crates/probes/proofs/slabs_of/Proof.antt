@@ -1,5 +1,6 @@
 -- `slabs_of` meets its contract.
 use mathlib.Core.Path.{sym, _∙_}
+use native.Mathlib.Omega.{arith}
 use borrow.Author.Needs.{needs}
 use borrow.Author.Tests.{not-false}
 use Rattle.tiles.proofs.Numbering.{fails-shape, passes-shape, fails-dimension, passes-dimension, Placed}
@@ -32,7 +33,7 @@ returns-2 c =
     refused-7 _ _ _ _ (sym (shape .ensures) ∙ not-false (shape .result) (c .before .before .if1 .left)) (fails-dimension (a .plan) (a .dimension) (test .result) (test .ensures) (c .if2 .taken))
 
 sub-slabs-along : tie.Need-sub-slabs-along
-sub-slabs-along c = placed c .low
+sub-slabs-along c = omega (arith, placed c .low)
 
 slabs-along-requires : tie.Need-slabs-along-requires
 slabs-along-requires c κs =
