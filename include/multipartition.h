@@ -18,8 +18,8 @@
  * - In every plan list in shape the slabs of a dimension hold each of its elements once, and multipartition_slab_of names the slab that holds it. The
  *   first (extent modulo cut) slabs have one element more than the others; so no slab has more elements than one before it, nor fewer than the extent
  *   divided by the cut, rounded down, and two of them differ by at most one. Every slab has at least the least thickness of its dimension.
- * - Each slab that multipartition_slabs_of writes is the one that multipartition_slab_of answers for that element, and an element that the latter
- *   refuses, the former refuses with the same number.
+ * - Each slab that multipartition_slabs_of writes is the one that multipartition_slab_of answers for that element, and where the latter refuses an
+ *   element with 6, 7 or 8, the former refuses the whole list with the same number.
  * - The answers of multipartition_timetable fit together, for every plan list in shape: what a processor sends after a step is exactly what its
  *   receiver expects before the next, and the receiver names the sender; except after the last step, the lengths that all processors send after a
  *   step add up to the product of the extents of the other dimensions; no length is cut off to 32 bits. For a list that multipartition_plan or
@@ -139,7 +139,7 @@ enum multipartition_number {
     MULTIPARTITION_BAD_DIMENSION = 7,      /* the dimension is not 1 to d */
     MULTIPARTITION_OTHER_EXTENTS = 11,     /* the product of the extents of the other dimensions is above 4,294,967,295 */
     MULTIPARTITION_OUT_OF_RANGE = 8,       /* a slab, element, tile, coordinate, step or processor out of range, or a wrong number of coordinates */
-    MULTIPARTITION_BAD_ANSWER_LENGTH = 9,
+    MULTIPARTITION_BAD_ANSWER_LENGTH = 9,  /* an answer list of another length; for multipartition_slabs_of, one shorter than its list of elements */
     MULTIPARTITION_NOT_RISING = 14         /* an element is smaller than the one before; the place is that of the first such, counted from 1 */
 };
 
@@ -206,8 +206,9 @@ uint64_t multipartition_slab_of(const uint32_t *plan, size_t plan_length,
 
 /* Which slabs of a dimension hold the elements of a list, which rises: no element is smaller than the one before; equal neighbours are allowed, and
  * the list may be empty. The slabs go to the front of `slabs`, one for each element; its places past them keep their contents. All checks come before
- * the first write. The time is in proportion to the elements and the slabs of the dimension together. Refused with 6, 7, 8 (any element out of
- * range), 9 (`slabs` is shorter than `elements`), 14. A place above 4,294,967,295 is given as 4,294,967,295. */
+ * the first write. The call goes once along the elements and the edges of the slabs up to the last element, so that few elements in many slabs are
+ * asked for one by one in less time. Refused with 6, 7, 8 (any element out of range), 9 (`slabs` is shorter than `elements`), 14. A place above
+ * 4,294,967,295 is given as 4,294,967,295. */
 uint64_t multipartition_slabs_of(const uint32_t *plan, size_t plan_length,
                                  uint32_t dimension,
                                  const uint32_t *elements, size_t elements_length,
