@@ -329,12 +329,14 @@ pub struct ProbeLines {
     pub lines: Vec<Vec<u32>>,
 }
 
-/// Lines of 1,000 probes and one of 100,000, anywhere in a dimension of 64 slabs and in one of 4,096.
-pub fn probe_lines(seed: u64) -> [ProbeLines; 4] {
+/// Lines of 1,000 probes and one of 100,000, anywhere in a dimension of 64 slabs and in one of 4,096; and of 300 in the
+/// latter.
+pub fn probe_lines(seed: u64) -> [ProbeLines; 5] {
     let mut random = Random::new(seed);
     [
         ("probe line of 1000, 64 slabs", 3, 100, 1_000),
         ("probe line of 100000, 64 slabs", 3, 1, 100_000),
+        ("probe line of 300, 4096 slabs", 2, 300, 300),
         ("probe line of 1000, 4096 slabs", 2, 100, 1_000),
         ("probe line of 100000, 4096 slabs", 2, 1, 100_000),
     ]
@@ -529,7 +531,7 @@ mod tests {
         for ProbeLines { what, plan, lines } in probe_lines(1) {
             let (probes, slabs) = (lines[0].len(), plan[CUTS]);
             assert_eq!(what, format!("probe line of {probes}, {slabs} slabs"));
-            assert_eq!(lines.len() * probes, 100_000, "{what}");
+            assert!(lines.len() * probes >= 90_000, "{what}");
             for line in &lines {
                 let mut slabs = vec![7; probes];
                 assert_eq!((RIVAL.slabs_of)(&plan, 1, line, &mut slabs), 0, "{what}");

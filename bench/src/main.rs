@@ -13,7 +13,7 @@ use std::process::{Command, ExitCode, Stdio};
 use bench::diagonal;
 use bench::jobs::{self, Job, ProbeLines, Question, Visit};
 use bench::linked::PROVED;
-use bench::plan_list::{COST_LOW, CUTS, LEAST, PLAN_LENGTH, PROCESSORS, WEIGHTS};
+use bench::plan_list::{COST_LOW, LEAST, PLAN_LENGTH, PROCESSORS, WEIGHTS};
 use bench::planning;
 use bench::probes::slabs_by_division;
 use bench::subject::{DiagonalCall, PlanCall, Planned, ProbeCall, Returned, Subject, Told, RIVAL};
@@ -465,15 +465,11 @@ fn probe_lines(repeats: usize) {
         });
     }
     for asked in jobs::probe_lines(8) {
-        // With fewer probes than slabs most of the time goes into the edges, which single questions do not visit.
-        let probes = asked.lines[0].len();
-        let edges = probes < asked.plan[CUTS] as usize;
-        let single = if edges { 1.0 } else { 0.25 };
-        // How long a long line takes is a matter of where the linker puts either side's loop.
-        let same_loop = (probes <= 1_000).then_some(1.2);
+        // Targets are set for 1,000 probes. The time of a long line depends on where the linker puts the loop.
+        let on_1000 = |target| (asked.lines[0].len() == 1_000).then_some(target);
         let rivals: [(&str, Option<f64>, ProbeCall); 3] = [
-            ("", same_loop, RIVAL.slabs_of),
-            (", beside one by one", Some(single), one_by_one),
+            ("", on_1000(1.2), RIVAL.slabs_of),
+            (", beside one by one", on_1000(0.25), one_by_one),
             (", beside a division each", None, slabs_by_division),
         ];
         for (beside, target, rival) in rivals {

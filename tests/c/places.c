@@ -160,12 +160,15 @@ static void thick_slabs_first(const uint32_t *plan)
 /* Probe lines along each dimension: the first and the last element of every slab, and those of the dimension. Places past the line are kept. */
 static void probe_lines(const uint32_t *plan)
 {
-    static uint32_t ends[2 * 420], slabs[ROOM + 2 * 420];
+    enum { MOST_SLABS = 420 };
+    static uint32_t ends[2 * MOST_SLABS], slabs[ROOM + 2 * MOST_SLABS];
     for (uint32_t k = 0; k < D; k++) {
         const size_t count = 2 * planned.cuts[k];
         for (uint32_t slab = 0; slab < planned.cuts[k]; slab++) {
-            EXPECT(multipartition_slab(plan, MULTIPARTITION_PLAN_LENGTH, k + 1, slab, ends + 2 * slab, MULTIPARTITION_SLAB_LENGTH), 0);
-            ends[2 * slab + 1]--;
+            uint32_t answer[ROOM];
+            EXPECT(multipartition_slab(plan, MULTIPARTITION_PLAN_LENGTH, k + 1, slab, ready(answer), MULTIPARTITION_SLAB_LENGTH), 0);
+            ends[2 * slab] = answer[MULTIPARTITION_SLAB_FIRST];
+            ends[2 * slab + 1] = answer[MULTIPARTITION_SLAB_AFTER] - 1;
         }
         ready(slabs + count);
         EXPECT(multipartition_slabs_of(plan, MULTIPARTITION_PLAN_LENGTH, k + 1, ends, count, slabs, count + ROOM), 0);

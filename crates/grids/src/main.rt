@@ -108,7 +108,7 @@ fn put_slab_of(out: &mut [u8], at: usize, plan: Plan, dimension: usize, element:
     }
 }
 
-// A place that is below 100.
+// A place in 32 bits; the lines here are shorter than 100.
 fn small(place: usize) -> u32 {
     if place < 100 {
         return place as u32;

@@ -38,7 +38,7 @@ dimensionCheck plan k = record { fails = not (between 1 (plan .d) k); number = 7
 abbrev pub rangeCheck : Bool → Check
 rangeCheck inRange = record { fails = not inRange; number = 8; place = 0 }
 
--- "a chain list of another length than stated"
+-- "a chain list of another length than stated"; document 02, request h: "a second list shorter than the first is a 9"
 abbrev pub lengthCheck : Bool → Check
 lengthCheck fits = record { fails = not fits; number = 9; place = 0 }
 

@@ -11,6 +11,7 @@ use lib.Dec.{ltb, leb, eqb}
 use lib.ListN.{length, getD, drop, drop-of-length-le}
 use lib.Seq.{drop-cons}
 use Rattle.probes.specs.Probes.{firstFallFrom, firstFall}
+use Rattle.probes.specs.SingleQuestions.{FallsFirst}
 
 -- ---- looked for from the front
 
@@ -47,12 +48,6 @@ rises-next elements before i l = go (decLe before (getD elements i 0))
         rw (lt-leb _ _ smaller, fall-here elements (suc i) before i l smaller) (ne-eqb (suc i) 0 (λ e. absurd (omega arith)))
 
 -- ---- what the place says
-
--- the element behind place i, counted from 0, is the first that is smaller than the one before
-pub record FallsFirst (elements : List ℕ) (i : ℕ) : Type 0 where
-  pub inside : suc i < length elements
-  pub falls : getD elements (suc i) 0 < getD elements i 0
-  pub rises : (j : ℕ) → j < i → getD elements j 0 ≤ getD elements (suc j) 0
 
 -- a place is 0, or one of those looked at
 fall-low : (k before : ℕ) (xs : List ℕ) (place : ℕ) → firstFallFrom k before xs ≡ suc place → k ≤ suc place

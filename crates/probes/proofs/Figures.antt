@@ -53,7 +53,7 @@ figures = refl
 abbrev tooFine : Layout
 tooFine = layoutWith (jobWith 4 2 (10 ∷ 10 ∷ []) (1 ∷ 1 ∷ []) []) (12 ∷ 4 ∷ [])
 
--- of a plan out of shape, and along a dimension that there is not, every list is refused, an empty one too
-pub refused-figures : (probesAnswer tooFine 3 [] [] ≡ refused 6 0) × (probesAnswer square 3 (10 ∷ []) [] ≡ refused 7 0)
+-- an empty list is refused too, of a plan out of shape and along a dimension that there is not
+pub refused-figures : (probesAnswer tooFine 3 [] [] ≡ refused 6 0) × (probesAnswer square 3 [] [] ≡ refused 7 0)
 unfolding gcd same allBelow listOf moduliOf remainder finish finishedRows rowsOf remaindersOf matrixOf inShape allWithin firstFall probesAnswer
 refused-figures = (refl, refl)

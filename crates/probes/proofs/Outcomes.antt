@@ -14,7 +14,7 @@ use Rattle.probes.specs.Probes.{allWithin, firstFall, slabsInto, probesA
 use Rattle.probes.specs.Told.{Answers}
 
 -- the plan is in shape and has the dimension, which has n elements and b slabs
-pub record Asked (plan : Layout) (k n b : ℕ) : Type 0 where
+pub record Along (plan : Layout) (k n b : ℕ) : Type 0 where
   pub shape : inShape plan ≡ true
   pub dimension : between 1 (plan .d) k ≡ true
   pub extent-is : extentOf plan k ≡ n
@@ -33,23 +33,23 @@ module _ (plan : Layout) (k : ℕ) (elements lent : List ℕ) where
   unfolding probesAnswer
   refused-7 shape e = rw (shape, e) (record { told = refl; held = refl })
 
-  module _ (n b : ℕ) (asked : Asked plan k n b) where
+  module _ (n b : ℕ) (along : Along plan k n b) where
     pub refused-8 : allWithin n elements ≡ false → Outcome (P.Refused 8 0) lent
     unfolding probesAnswer
-    refused-8 e = rw (asked .shape, asked .dimension, asked .extent-is, e) (record { told = refl; held = refl })
+    refused-8 e = rw (along .shape, along .dimension, along .extent-is, e) (record { told = refl; held = refl })
 
     module _ (within : allWithin n elements ≡ true) where
       pub refused-9 : length lent < length elements → Outcome (P.Refused 9 0) lent
       unfolding probesAnswer
-      refused-9 short = rw (asked .shape, asked .dimension, asked .extent-is, within, lt-leb _ _ short) (record { told = refl; held = refl })
+      refused-9 short = rw (along .shape, along .dimension, along .extent-is, within, lt-leb _ _ short) (record { told = refl; held = refl })
 
       module _ (long : length elements ≤ length lent) where
         pub refused-14 : eqb (firstFall elements) 0 ≡ false → (place : ℕ) → place ≡ firstFall elements → Outcome (P.Refused 14 place) lent
         unfolding probesAnswer
         refused-14 falls place e =
-            rw (asked .shape, asked .dimension, asked .extent-is, within, le-leb _ _ long, falls, ← e) (record { told = refl; held = refl })
+            rw (along .shape, along .dimension, along .extent-is, within, le-leb _ _ long, falls, ← e) (record { told = refl; held = refl })
 
         pub done : eqb (firstFall elements) 0 ≡ true → (slabs : List ℕ) → slabs ≡ slabsInto n b elements lent → Outcome P.Done slabs
         unfolding probesAnswer
         done rises slabs e =
-            rw (asked .shape, asked .dimension, asked .extent-is, asked .cut-is, within, le-leb _ _ long, rises, e) (record { told = refl; held = refl })
+            rw (along .shape, along .dimension, along .extent-is, along .cut-is, within, le-leb _ _ long, rises, e) (record { told = refl; held = refl })

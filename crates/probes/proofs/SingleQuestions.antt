@@ -11,14 +11,15 @@ use lib.Dec.{leb, ltb, eqb}
 use lib.ListN.{length, getD, drop, length-append, length-drop, length-map, List·getD-append}
 use lib.Seq.{ext-getD, getD-append-add, getD-drop}
 use Rattle.multipartition.specs.Answers.{Answer, answered, refused, Check}
+use Rattle.multipartition.specs.Lists.{allBelow}
 use Rattle.multipartition.specs.Plans.{Layout, between, inShape}
 use Rattle.multipartition.specs.Slabs.{slabOf}
 use Rattle.multipartition.specs.Questions.{extentOf, cutOf, shapeCheck, dimensionCheck, rangeCheck, lengthCheck, slabOfAnswer}
 use Rattle.multipartition.proofs.Answers.{answers-iff}
 use Rattle.multipartition.proofs.BothWays.{slab-of-answered}
 use Rattle.probes.specs.Probes.{allWithin, firstFall, risingCheck, slabsInto, probesAnswer}
-use Rattle.probes.specs.Edges.{Rising}
-use Rattle.probes.proofs.Falls.{FallsFirst, first-fall-iff, no-fall-iff}
+use Rattle.probes.specs.SingleQuestions.{FallsFirst, Answerable, Singly}
+use Rattle.probes.proofs.Falls.{first-fall-iff, no-fall-iff}
 use Rattle.probes.proofs.Ranges.{all-within-iff}
 
 -- a refusal as one of another answer
@@ -68,15 +69,8 @@ module _ (plan : Layout) (k : ℕ) (elements lent : List ℕ) where
   abbrev b : ℕ
   b = cutOf plan k
 
-  -- "A call takes a rising list of element numbers of one dimension"
-  pub record Answerable : Type 0 where
-    pub shape : inShape plan ≡ true
-    pub dimension : between 1 (plan .d) k ≡ true
-    pub rising : Rising (extentOf plan k) elements
-    pub long : length elements ≤ length lent
-
   pub probes-answered : (slabs : List ℕ) → (probesAnswer plan k elements lent ≡ answered slabs)
-      ↔ (Answerable × (slabsInto (extentOf plan k) (cutOf plan k) elements lent ≡ slabs))
+      ↔ (Answerable plan k elements lent × (slabsInto (extentOf plan k) (cutOf plan k) elements lent ≡ slabs))
   unfolding probesAnswer
   probes-answered slabs = (there, back)
     where
@@ -89,7 +83,7 @@ module _ (plan : Layout) (k : ℕ) (elements lent : List ℕ) where
           ∷ risingCheck elements
           ∷ []
 
-      there : probesAnswer plan k elements lent ≡ answered slabs → Answerable × (slabsInto n b elements lent ≡ slabs)
+      there : probesAnswer plan k elements lent ≡ answered slabs → Answerable plan k elements lent × (slabsInto n b elements lent ≡ slabs)
       there e =
           let h = answers-iff checks (slabsInto n b elements lent) slabs .0 e in (
             record {
@@ -104,7 +98,7 @@ module _ (plan : Layout) (k : ℕ) (elements lent : List ℕ) where
             h .1,
           )
 
-      back : Answerable × (slabsInto n b elements lent ≡ slabs) → probesAnswer plan k elements lent ≡ answered slabs
+      back : Answerable plan k elements lent × (slabsInto n b elements lent ≡ slabs) → probesAnswer plan k elements lent ≡ answered slabs
       back (asked, e) =
           rw (
             asked .shape,
@@ -115,41 +109,28 @@ module _ (plan : Layout) (k : ℕ) (elements lent : List ℕ) where
           )
           (ap answered e)
 
-  -- "Each answer equals that of the single question": the call answers with these slabs exactly if the list rises, the second list is long enough, and
-  -- each place has what the single question answers about its element, or, past the elements, what was lent
-  pub record Singly (slabs : List ℕ) : Type 0 where
-    pub shape : inShape plan ≡ true
-    pub dimension : between 1 (plan .d) k ≡ true
-    pub rises : (i : ℕ) → suc i < length elements → getD elements i 0 ≤ getD elements (suc i) 0
-    pub long : length elements ≤ length lent
-    pub many : length slabs ≡ length lent
-    pub each : (i : ℕ) → i < length elements → slabOfAnswer plan k (getD elements i 0) ≡ answered (getD slabs i 0)
-    pub kept : (i : ℕ) → length elements ≤ i → getD slabs i 0 ≡ getD lent i 0
-
-  pub answered-iff-singly : (slabs : List ℕ) → (probesAnswer plan k elements lent ≡ answered slabs) ↔ Singly slabs
+  -- "Each answer equals that of the single question": the call answers with these slabs exactly if no check turns the line down and each place has
+  -- what the single question answers about its element, or, past the elements, what was lent
+  pub answered-iff-singly : (slabs : List ℕ)
+      → (probesAnswer plan k elements lent ≡ answered slabs) ↔ (Answerable plan k elements lent × Singly plan k elements lent slabs)
   answered-iff-singly slabs = (there, back)
     where
-      there : probesAnswer plan k elements lent ≡ answered slabs → Singly slabs
+      there : probesAnswer plan k elements lent ≡ answered slabs → Answerable plan k elements lent × Singly plan k elements lent slabs
       there e =
           let h = probes-answered slabs .0 e in
-          let asked = h .0 in
-          record {
-            shape = asked .shape;
-            dimension = asked .dimension;
-            rises = asked .rising .rises;
-            long = asked .long;
-            many = rw (← h .1) (slabs-many n b elements lent (asked .long));
-            each = λ i l. slab-of-answered plan k (getD elements i 0) (getD slabs i 0) .1
-                (asked .shape, asked .dimension, asked .rising .within i l, rw (← h .1) (sym (slabs-front n b elements lent i l)));
-            kept = λ i l. rw (← h .1) (slabs-behind n b elements lent i l);
-          }
+          let asked = h .0 in (
+            asked,
+            record {
+              many = rw (← h .1) (slabs-many n b elements lent (asked .long));
+              each = λ i l. slab-of-answered plan k (getD elements i 0) (getD slabs i 0) .1
+                  (asked .shape, asked .dimension, asked .rising .within i l, rw (← h .1) (sym (slabs-front n b elements lent i l)));
+              kept = λ i l. rw (← h .1) (slabs-behind n b elements lent i l);
+            },
+          )
 
-      back : Singly slabs → probesAnswer plan k elements lent ≡ answered slabs
-      back h = probes-answered slabs .1 (record { shape = h .shape; dimension = h .dimension; rising = record { within = within; rises = h .rises }; long = h .long }, same)
+      back : Answerable plan k elements lent × Singly plan k elements lent slabs → probesAnswer plan k elements lent ≡ answered slabs
+      back (asked, h) = probes-answered slabs .1 (asked, same)
         where
-          within : (i : ℕ) → i < length elements → getD elements i 0 < n
-          within i l = slab-of-answered plan k (getD elements i 0) (getD slabs i 0) .0 (h .each i l) .2
-
           at : (i : ℕ) → Dec (length elements ≤ i) → getD (slabsInto n b elements lent) i 0 ≡ getD slabs i 0
           at i (yes l) = slabs-behind n b elements lent i l ∙ sym (h .kept i l)
           at i (no m) =
@@ -157,7 +138,7 @@ module _ (plan : Layout) (k : ℕ) (elements lent : List ℕ) where
               slabs-front n b elements lent i l ∙ slab-of-answered plan k (getD elements i 0) (getD slabs i 0) .0 (h .each i l) .3
 
           same : slabsInto n b elements lent ≡ slabs
-          same = ext-getD 0 _ _ (slabs-many n b elements lent (h .long) ∙ sym (h .many)) (λ i l. at i (decLe (length elements) i))
+          same = ext-getD 0 _ _ (slabs-many n b elements lent (asked .long) ∙ sym (h .many)) (λ i l. at i (decLe (length elements) i))
 
   -- an element that the single question refuses, the call refuses with the same number and place
   pub refused-as-singly : (i number place : ℕ) → i < length elements → slabOfAnswer plan k (getD elements i 0) ≡ refused number place
@@ -178,7 +159,7 @@ module _ (plan : Layout) (k : ℕ) (elements lent : List ℕ) where
 -- "an empty list is accepted"
 pub empty-answered : (plan : Layout) (k : ℕ) (lent : List ℕ) → inShape plan ≡ true → between 1 (plan .d) k ≡ true
     → probesAnswer plan k [] lent ≡ answered lent
-unfolding probesAnswer allWithin firstFall slabsInto
+unfolding probesAnswer allBelow allWithin firstFall slabsInto
 empty-answered plan k lent shape dimension = rw (shape, dimension, le-leb 0 (length lent) (omega arith)) refl
 
 -- "with the place of the first such counted from 1": where nothing comes before it, a fall is refused with its place

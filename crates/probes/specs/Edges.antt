@@ -20,6 +20,6 @@ pub record Behind (n b : ℕ) (edge : Edge) : Type 0 where
   pub after-is : edge .after ≡ slabEnd n b (edge .slab)
 
 -- elements that are all among n, and of which none is smaller than the one before
-pub record Rising (n : ℕ) (elements : List ℕ) : Type 0 where
+pub record RisingWithin (n : ℕ) (elements : List ℕ) : Type 0 where
   pub within : (i : ℕ) → i < length elements → getD elements i 0 < n
   pub rises : (i : ℕ) → suc i < length elements → getD elements i 0 ≤ getD elements (suc i) 0

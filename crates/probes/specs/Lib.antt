@@ -1,3 +1,4 @@
 pub mod Probes
 pub mod Edges
+pub mod SingleQuestions
 pub mod Told

@@ -1,18 +1,18 @@
 -- Slabs of a whole probe line (document 02, request h). Dimensions are numbered from 1.
-use mathlib.Core.Bool.{Bool, true, cond, not, _&&_}
+use mathlib.Core.Bool.{Bool, cond, not}
 use mathlib.Core.List.{List, [], _∷_, _++_, map}
 use Prim.Native.Nat.{ℕ, suc}
 use lib.Dec.{ltb, leb, eqb}
-use lib.ListN.{length, drop}
+use lib.ListN.{length, getD, drop}
 use Rattle.multipartition.specs.Answers.{Answer, answered, Check, checked}
+use Rattle.multipartition.specs.Lists.{allBelow}
 use Rattle.multipartition.specs.Plans.{Layout}
 use Rattle.multipartition.specs.Slabs.{slabOf}
 use Rattle.multipartition.specs.Questions.{extentOf, cutOf, shapeCheck, dimensionCheck, rangeCheck, lengthCheck}
 
 -- every element is one of n
 unfoldable pub allWithin : ℕ → List ℕ → Bool
-allWithin n [] = true
-allWithin n (x ∷ xs) = ltb x n && allWithin n xs
+allWithin n elements = allBelow (length elements) (λ i. ltb (getD elements i 0) n)
 
 -- "an element smaller than the one before": the place of the first such, where the elements stand from place k on and `before` is the one before
 -- them; 0 if there is none

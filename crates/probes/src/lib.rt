@@ -11,7 +11,7 @@ ghost use Rattle.multipartition.specs.Slabs.{slabStart, slabOf};
 ghost use Rattle.layout.specs.Plans.{layoutOf};
 ghost use Rattle.layout.specs.Shaped.{Shaped};
 ghost use Rattle.probes.specs.Probes.{allWithin, firstFall, slabsInto, probesAnswer};
-ghost use Rattle.probes.specs.Edges.{Split, Behind, Rising};
+ghost use Rattle.probes.specs.Edges.{Split, Behind, RisingWithin};
 ghost use Rattle.probes.specs.Told.{Answers};
 
 pub enum Probed {
@@ -38,7 +38,8 @@ fn all_within(elements: &[u32], n: u32) -> bool
     ok
 }
 
-// Whether no element is smaller than the one before.
+// Whether no element is smaller than the one before. It goes on to the end also where one is: a pass that does not leave early is quicker, and the
+// place is looked for in a refusal only.
 fn rises(elements: &[u32]) -> bool
     ensures { λ r. ⌜ r ≡ eqb (firstFall (now (elements .entry))) 0 ⌝ }
 {
@@ -95,7 +96,7 @@ fn edge_past(n: u32, b: u32, thin: u32, more: u32, from: Edge, element: u32) -> 
 
 // Writes the slab of each element: one pass, in which the edge moves on and never back.
 fn fill(n: u32, b: u32, elements: &[u32], slabs: &mut [u32])
-    requires { ⌜ (n ≤ 1000000) × (1 ≤ b) × (b ≤ n) × (Rising n (now elements)) × (length (now elements) ≤ length (now slabs)) ⌝ }
+    requires { ⌜ (n ≤ 1000000) × (1 ≤ b) × (b ≤ n) × (RisingWithin n (now elements)) × (length (now elements) ≤ length (now slabs)) ⌝ }
     ensures { λ r. ⌜ now (slabs .exit) ≡ slabsInto n b (now (elements .entry)) (now (slabs .entry)) ⌝ }
 {
     let thin = n / b;

@@ -585,7 +585,7 @@ fn lines_as_single_questions() {
     let mut random = Random::new(16);
     let pool = pool(&mut random);
     let mut asked = 0;
-    while asked < 2_000_000 {
+    for _ in 0..4_000 {
         let (plan, _) = in_shape(&mut random, &pool);
         let list = list_of(&plan);
         let length = random.between(1, 3_000) as usize;
@@ -601,6 +601,7 @@ fn lines_as_single_questions() {
             asked += 1;
         }
     }
+    assert!(asked > 1_000_000, "{asked}");
 }
 
 /// Lists of any numbers and of every length up to twice a plan's.

@@ -32,7 +32,7 @@ loop-again c =
 returns : tie.Need-returns Inv-loop μ-loop
 returns c =
     let h = c .before .before .loop .inv in
-    (h .1, edge-of _ _ _ _ (h .0) _ (h .1) _ (h .2) (c .if1 .left))
+    (h .1, edge-of _ _ _ _ (h .0) _ (h .1) _ (h .2) (omega (arith, c .if1 .left)))
 
 pub edge-past-spec : {M : Type 1} → statement M
 edge-past-spec =

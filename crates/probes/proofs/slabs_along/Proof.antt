@@ -11,12 +11,12 @@ use Rattle.layout.proofs.Shaped.{in-shape-of-shaped}
 use Rattle.tiles.proofs.Numbering.{is-dimension, extent-at, cut-at}
 use Rattle.probes.proofs.Falls.{no-fall-iff}
 use Rattle.probes.proofs.Ranges.{all-within-iff}
-use Rattle.probes.proofs.Outcomes.{Asked, refused-8, refused-9, refused-14, done}
+use Rattle.probes.proofs.Outcomes.{Along, refused-8, refused-9, refused-14, done}
 use Rattle.probes.proofs.slabs_along.Statement.{statement}
 use Rattle.probes.proofs.slabs_along.Tie as tie
 
-asked-at : (plan : Plan) (k : ℕ) → Shaped plan → k < plan .d → Asked (layoutOf plan) (k + 1) (getD (plan .extents) k 0) (getD (plan .cuts) k 0)
-asked-at plan k shaped below =
+along-at : (plan : Plan) (k : ℕ) → Shaped plan → k < plan .d → Along (layoutOf plan) (k + 1) (getD (plan .extents) k 0) (getD (plan .cuts) k 0)
+along-at plan k shaped below =
     record {
       shape = in-shape-of-shaped plan shaped;
       dimension = is-dimension plan k below;
@@ -37,13 +37,13 @@ returns : tie.Need-returns
 returns c =
     let s = c .before .before .before .before .before in
     let test = c .before .all-within in
-    refused-8 _ _ _ _ _ _ (asked-at _ _ (s .pre .0) (s .pre .1)) (sym (test .ensures) ∙ not-true (test .result) (c .if1 .taken))
+    refused-8 _ _ _ _ _ _ (along-at _ _ (s .pre .0) (s .pre .1)) (sym (test .ensures) ∙ not-true (test .result) (c .if1 .taken))
 
 returns-2 : tie.Need-returns-2
 returns-2 c =
     let s = c .before .before .before .before .before .before in
     let test = c .before .before .all-within in
-    refused-9 _ _ _ _ _ _ (asked-at _ _ (s .pre .0) (s .pre .1)) (sym (test .ensures) ∙ not-false (test .result) (c .before .if1 .left)) (c .if2 .taken)
+    refused-9 _ _ _ _ _ _ (along-at _ _ (s .pre .0) (s .pre .1)) (sym (test .ensures) ∙ not-false (test .result) (c .before .if1 .left)) (c .if2 .taken)
 
 rises-requires : tie.Need-rises-requires
 rises-requires c κs = search needs
@@ -56,7 +56,7 @@ returns-3 c =
     let s = c .before .before .before .before .before .before .before .before .before in
     let within = c .before .before .before .before .before .all-within in
     let test = c .before .before .rises in
-    refused-14 _ _ _ _ _ _ (asked-at _ _ (s .pre .0) (s .pre .1)) (sym (within .ensures) ∙ not-false (within .result) (c .before .before .before .before .if1 .left)) (c .before .before .before .if2 .left)
+    refused-14 _ _ _ _ _ _ (along-at _ _ (s .pre .0) (s .pre .1)) (sym (within .ensures) ∙ not-false (within .result) (c .before .before .before .before .if1 .left)) (c .before .before .before .if2 .left)
     (sym (test .ensures) ∙ not-true (test .result) (c .before .if3 .taken)) _ (c .first-fall .ensures)
 
 mul-fill : tie.Need-mul-fill
@@ -89,7 +89,7 @@ returns-4 c =
     let s = c .before .before .before .before .before .before .before .before .before .before .before .before .before in
     let within = c .before .before .before .before .before .before .before .before .before .all-within in
     let test = c .before .before .before .before .before .before .rises in
-    done _ _ _ _ _ _ (asked-at _ _ (s .pre .0) (s .pre .1)) (sym (within .ensures) ∙ not-false (within .result) (c .before .before .before .before .before .before .before .before .if1 .left)) (c .before .before .before .before .before .before .before .if2 .left)
+    done _ _ _ _ _ _ (along-at _ _ (s .pre .0) (s .pre .1)) (sym (within .ensures) ∙ not-false (within .result) (c .before .before .before .before .before .before .before .before .if1 .left)) (c .before .before .before .before .before .before .before .if2 .left)
     (sym (test .ensures) ∙ not-false (test .result) (c .before .before .before .before .before .if3 .left)) _ (c .before .before .fill .ensures)
 
 pub slabs-along-spec : {M : Type 1} → statement M

@@ -38,7 +38,7 @@ sub-slabs-along c = omega (arith, placed c .low)
 slabs-along-requires : tie.Need-slabs-along-requires
 slabs-along-requires c κs =
     let shape = c .before .before .before .before .in-shape in
-    (passes-shape _ (shape .result) (shape .ensures) (c .before .before .before .if1 .left), placed (c .before) .below)
+    (passes-shape _ (shape .result) (shape .ensures) (c .before .before .before .if1 .left), omega (arith, placed (c .before) .below))
 
 same-length : tie.Need-same-length
 same-length c = search needs
