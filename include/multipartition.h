@@ -6,8 +6,8 @@
  * from 1; processors, slabs, elements and steps of a sweep from 0; tiles from 1.
  *
  * Proved, for all numbers and for lists of all lengths and contents:
- * - Every call returns. It returns 0 and has written every place of its answer lists (multipartition_slabs_of as many as it has elements, and no
- *   others), or it returns a refusal and has written nothing. The refusal is the first of the table below that applies.
+ * - Every call returns. It returns 0 and has written every place of its answer lists (multipartition_slabs_of: one place for each element, from
+ *   the front, and no others), or it returns a refusal and has written nothing. The refusal is the first of the table below that applies.
  * - What a call returns and writes is settled by its numbers and its lists alone, and it writes no other list.
  * - A plan list is any list of 55 numbers. One that multipartition_plan or multipartition_diagonal wrote is in shape, and its tiles are even: every
  *   processor owns equally many tiles in every slab of every dimension. One that is made or changed by hand is answered by the same formulas where
@@ -206,8 +206,8 @@ uint64_t multipartition_slab_of(const uint32_t *plan, size_t plan_length,
 
 /* Which slabs of a dimension hold the elements of a list, which rises: no element is smaller than the one before; equal neighbours are allowed, and
  * the list may be empty. The slabs go to the front of `slabs`, one for each element; its places past them keep their contents. All checks come before
- * the first write. The call goes once along the elements and the edges of the slabs up to the last element, so that few elements in many slabs are
- * asked for one by one in less time. Refused with 6, 7, 8 (any element out of range), 9 (`slabs` is shorter than `elements`), 14. A place above
+ * the first write; then the call goes once along the elements and along the edges of the slabs up to the last element, so that a few elements in many
+ * slabs are answered sooner one by one. Refused with 6, 7, 8 (any element out of range), 9 (`slabs` is shorter than `elements`), 14. A place above
  * 4,294,967,295 is given as 4,294,967,295. */
 uint64_t multipartition_slabs_of(const uint32_t *plan, size_t plan_length,
                                  uint32_t dimension,

@@ -1,4 +1,4 @@
--- What the pass along the slab edges carries. An extent of n elements is cut into b slabs.
+-- What the pass carries, "moving along the slab edges once" (document 02, request h). An extent of n elements is cut into b slabs.
 use mathlib.Core.Path.{_≡_}
 use mathlib.Core.List.{List}
 use Prim.Native.Nat.{ℕ, suc, _/_, _%_, _≤_, _<_}
@@ -19,7 +19,7 @@ pub record Behind (n b : ℕ) (edge : Edge) : Type 0 where
   pub below : edge .slab < b
   pub after-is : edge .after ≡ slabEnd n b (edge .slab)
 
--- elements that are all among n, and of which none is smaller than the one before
+-- "a rising list of element numbers of one dimension, equal neighbours allowed": all among n, and none smaller than the one before
 pub record RisingWithin (n : ℕ) (elements : List ℕ) : Type 0 where
   pub within : (i : ℕ) → i < length elements → getD elements i 0 < n
   pub rises : (i : ℕ) → suc i < length elements → getD elements i 0 ≤ getD elements (suc i) 0

@@ -10,7 +10,7 @@ use Rattle.multipartition.specs.Plans.{Layout}
 use Rattle.multipartition.specs.Slabs.{slabOf}
 use Rattle.multipartition.specs.Questions.{extentOf, cutOf, shapeCheck, dimensionCheck, rangeCheck, lengthCheck}
 
--- every element is one of n
+-- "an element out of range is an 8": whether every element is one of n
 unfoldable pub allWithin : ℕ → List ℕ → Bool
 allWithin n elements = allBelow (length elements) (λ i. ltb (getD elements i 0) n)
 

@@ -1,5 +1,5 @@
-// The slabs of a whole probe line: of a rising list of elements of one dimension, in one pass along the elements and the slab edges (document 02,
-// request h).
+// The slabs of a whole probe line: of a rising list of elements of one dimension, written in one pass along the elements and the slab edges
+// (document 02, request h).
 use layout::Plan;
 use tiles::dimensions::has_dimension;
 use tiles::slabs::thickness;
@@ -17,7 +17,7 @@ ghost use Rattle.probes.specs.Told.{Answers};
 pub enum Probed {
     // the slabs stand at the front of the second list
     Done,
-    // of refusal 14 the place of the element, counted from 1
+    // the place of refusal 14 is that of the element, counted from 1; else it is 0
     Refused { number: u32, place: usize },
 }
 

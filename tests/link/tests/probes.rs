@@ -87,7 +87,7 @@ fn every_short_line() {
 }
 
 /// Every element of a dimension once and then thrice, for every cut of extents to 60, among them one slab and as many
-/// slabs as elements; and every single step from an element to a later one.
+/// slabs as elements; and every single step from an element to the same or a later one.
 #[test]
 fn every_cut_of_small_extents() {
     for n in 1..=60 {
@@ -112,7 +112,8 @@ fn every_cut_of_small_extents() {
     }
 }
 
-/// Every dimension of plans of five dimensions, of two and of three: as the elements of each slab have it.
+/// Every dimension of plans of five dimensions, of two and of three, compared with the elements that the slab question
+/// gives.
 #[test]
 fn every_dimension() {
     let (mut five, mut three, mut two) = ([7; PLAN_LENGTH], [7; PLAN_LENGTH], [7; PLAN_LENGTH]);
