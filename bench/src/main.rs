@@ -465,11 +465,11 @@ fn probe_lines(repeats: usize) {
         });
     }
     for asked in jobs::probe_lines(8) {
-        // Targets are set for 1,000 probes. The time of a long line depends on where the linker puts the loop.
-        let on_1000 = |target| (asked.lines[0].len() == 1_000).then_some(target);
+        // A quarter of the single questions' time is asked for on 1,000 probes.
+        let quarter = (asked.lines[0].len() == 1_000).then_some(0.25);
         let rivals: [(&str, Option<f64>, ProbeCall); 3] = [
-            ("", on_1000(1.2), RIVAL.slabs_of),
-            (", beside one by one", on_1000(0.25), one_by_one),
+            ("", Some(1.2), RIVAL.slabs_of),
+            (", beside one by one", quarter, one_by_one),
             (", beside a division each", None, slabs_by_division),
         ];
         for (beside, target, rival) in rivals {
