@@ -17,11 +17,11 @@ use Rattle.multipartition.specs.Lists.{first, rest, listOf}
 use Rattle.multipartition.specs.Cuts.{Even}
 use Rattle.multipartition.specs.Moduli.{moduliOf}
 use Rattle.multipartition.specs.Matrix.{remainder, Row, firstRow, restRows, startRow, factor, next, finish, finishedRows, rowsOf, remaindersOf, matrixOf}
-use Rattle.multipartition.specs.MixedRadix.{numberFrom}
+use Rattle.multipartition.specs.MixedRadix.{numberFrom, numberUp}
 use Rattle.multipartition.specs.Owners.{times, coordinatesAt, ownerAt, ownerOf}
 use Rattle.multipartition.specs.WholeNumbers.{Stands}
 use Rattle.multipartition.proofs.WholeNumbers.{stands-take, stands-remainder, stands-dvd, stands-nat}
-use Rattle.multipartition.proofs.MixedRadix.{numberDown, number-reverse}
+use Rattle.multipartition.proofs.MixedRadix.{number-reverse}
 use Rattle.multipartition.proofs.Moduli.{length-moduli, first-modulus, remains, remains-dvd, moduliDown, moduliDown-reverse}
 use Rattle.multipartition.proofs.GridSums.{getD-reverseAux-past}
 use Rattle.multipartition.proofs.Rows.{taken, values}
@@ -263,8 +263,8 @@ ownerOf-is-ownerDown p neg b1 i1 cuts x l n even e =
     ∙ ap₂ (λ (c : ℕ) (ys : List ℕ). numberFrom c ms ys) first-is-zero
     (coordinates-reverse ms (finishedRows (reverse cuts) (reverse ms)) (i1 ∷ reverse x) row-lengths)
     ∙ number-reverse ms (reverse (cs (reverse ms))) lengths
-    ∙ ap₂ numberDown (sym (moduliDown-reverse p cuts l)) (reverse-reverse (cs (reverse ms)))
-    ∙ ap (λ (ys : List ℕ). numberDown (moduliDown p (reverse cuts)) ys)
+    ∙ ap₂ numberUp (sym (moduliDown-reverse p cuts l)) (reverse-reverse (cs (reverse ms)))
+    ∙ ap (λ (ys : List ℕ). numberUp (moduliDown p (reverse cuts)) ys)
     (ap cs (sym (moduliDown-reverse p cuts l)) ∙ coordinates-values p neg i1 (reverse cuts) x l n (e ∙ sym (length-reverse cuts)))
   where
     m1 : ℕ

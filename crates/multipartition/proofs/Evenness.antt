@@ -6,7 +6,7 @@ use Prim.Native.Nat.{ℕ, zero, suc, _+_, _*_, _/_, _%_, _<_, _∣_}
 use native.Mathlib.Nat.{mul-comm, mul-zero, zero-mul, mod-lt, mod-eq-of-lt, mod-add-mod, add-mod-mod, mod-eq-zero-of-dvd, div-add-mod', div-lt-iff-lt-mul, div-eq-of-eq-mul-right, dvd-trans, dvd-mul-right-of-dvd}
 use native.Mathlib.Decide.{ℕ-discrete}
 use native.Mathlib.Omega.{arith}
-use lib.Arith.{digits-lt, digits-div, digits-mod, lt-one}
+use lib.Arith.{digits-div, digits-mod, lt-one}
 use Rattle.numbers.specs.Gcd.{gcd}
 use Rattle.numbers.specs.Products.{product}
 use Rattle.numbers.specs.Sums.{same}
@@ -14,7 +14,9 @@ use Rattle.numbers.proofs.Gcd.{gcd-dvd-left, gcd-dvd-right, gcd-pos, gcd-rest-p
 use Rattle.numbers.proofs.Sums.{same-yes, same-no, sum-mul-left}
 use Rattle.numbers.proofs.Residues.{count-residue}
 use Rattle.multipartition.specs.Lists.{first, rest}
-use Rattle.multipartition.proofs.MixedRadix.{numberDown, digitsDown}
+use Rattle.multipartition.specs.MixedRadix.{numberUp, digitsUp}
+use Rattle.multipartition.specs.Tiles.{Inside}
+use Rattle.multipartition.proofs.MixedRadix.{number-up-below}
 use Rattle.multipartition.proofs.Moduli.{remains, remains-dvd, moduliDown, moduliDown-product, othersDown, EvenDown, even-remains}
 use Rattle.multipartition.proofs.GridSums.{sum-cong, same-iff, total-ext, slabTotal, slabTotal-ext, slabTotal-mul-left, slabTotal-swap, placeDown, equal-shares}
 use Rattle.multipartition.proofs.Rows.{taken, reached, values, hits, Below, moduliDown-dividing, modulus-reached-dvd}
@@ -42,37 +44,35 @@ same-digits n r m q l = go (ℕ-discrete n (q / m)) (ℕ-discrete r (q % m))
         same-no (n * m + r) q (λ h. g (sym (digits-div n l) ∙ ap (λ (x : ℕ). x / m) h))
         ∙ sym (ap (λ (x : ℕ). x * same r (q % m)) (same-no n (q / m) g) ∙ zero-mul (same r (q % m)))
 
--- remainders make a number below the product of the moduli
-number-below : (p : ℕ) (cuts ys : List ℕ) → zero < p
-    → numberDown (moduliDown p cuts) (remaindersDown (moduliDown p cuts) ys) < product (moduliDown p cuts)
-unfolding moduliDown numberDown remaindersDown
-number-below p [] ys l = omega arith
-number-below p (b ∷ cuts) ys l =
-    subst (λ (n : ℕ). numberDown ms (remaindersDown ms (rest ys)) * gcd p b + first ys % gcd p b < n) (mul-comm (product ms) (gcd p b))
-    (digits-lt (number-below (remains p b) cuts (rest ys) (gcd-rest-pos p b l)) (mod-lt (first ys) (gcd-pos p b l)))
-  where
-    ms : List ℕ
-    ms = moduliDown (remains p b) cuts
+-- remainders are below their moduli
+remainders-inside : (p : ℕ) (cuts ys : List ℕ) → zero < p → Inside (moduliDown p cuts) (remaindersDown (moduliDown p cuts) ys)
+unfolding moduliDown remaindersDown Inside
+remainders-inside p [] ys l = tt
+remainders-inside p (b ∷ cuts) ys l = (mod-lt (first ys) (gcd-pos p b l), remainders-inside (remains p b) cuts (rest ys) (gcd-rest-pos p b l))
 
-digits-below : (p : ℕ) (cuts : List ℕ) (q : ℕ) → zero < p → Below cuts (moduliDown p cuts) (digitsDown (moduliDown p cuts) q)
-unfolding moduliDown digitsDown Below
+digits-below : (p : ℕ) (cuts : List ℕ) (q : ℕ) → zero < p → Below cuts (moduliDown p cuts) (digitsUp (moduliDown p cuts) q)
+unfolding moduliDown digitsUp Below
 digits-below p [] q l = tt
 digits-below p (b ∷ cuts) q l = (mod-lt q (gcd-pos p b l), digits-below (remains p b) cuts (q / gcd p b) (gcd-rest-pos p b l))
 
 -- the values have q's coordinates for remainders just if the number of their remainders is q
 hits-number : (p : ℕ) (cuts ys : List ℕ) (q : ℕ) → zero < p → q < product (moduliDown p cuts)
-    → hits cuts (moduliDown p cuts) (digitsDown (moduliDown p cuts) q) ys
-    ≡ same (numberDown (moduliDown p cuts) (remaindersDown (moduliDown p cuts) ys)) q
-unfolding moduliDown digitsDown hits numberDown remaindersDown
+    → hits cuts (moduliDown p cuts) (digitsUp (moduliDown p cuts) q) ys
+    ≡ same (numberUp (moduliDown p cuts) (remaindersDown (moduliDown p cuts) ys)) q
+unfolding moduliDown digitsUp hits numberUp remaindersDown
 hits-number p [] ys q l h = sym (same-yes 0 q (sym (lt-one h)))
 hits-number p (b ∷ cuts) ys q l h =
     ap (λ (n : ℕ). n * same (first ys % gcd p b) (q % gcd p b))
     (hits-number (remains p b) cuts (rest ys) (q / gcd p b) (gcd-rest-pos p b l)
     (div-lt-iff-lt-mul (gcd-pos p b l) .1 (subst (λ (n : ℕ). q < n) (mul-comm (gcd p b) (product ms)) h)))
-    ∙ sym (same-digits (numberDown ms (remaindersDown ms (rest ys))) (first ys % gcd p b) (gcd p b) q (mod-lt (first ys) (gcd-pos p b l)))
+    ∙ sym (same-digits (numberUp ms (remaindersDown ms (rest ys))) (first ys % gcd p b) (gcd p b) q (mod-lt (first ys) (gcd-pos p b l)))
+    ∙ ap (λ (n : ℕ). same n q) regroup
   where
     ms : List ℕ
     ms = moduliDown (remains p b) cuts
+
+    regroup : numberUp ms (remaindersDown ms (rest ys)) * gcd p b + first ys % gcd p b ≡ first ys % gcd p b + gcd p b * numberUp ms (remaindersDown ms (rest ys))
+    regroup = omega arith
 
 -- ---- one coordinate vector
 
@@ -158,7 +158,7 @@ slab-part neg p b1 (b ∷ cuts) cs (suc k) s l n even inside h =
 
 -- the owner of the position (i1, x)
 abbrev pub ownerDown : ℕ → ℕ → List ℕ → ℕ → List ℕ → ℕ
-ownerDown neg p cuts i1 x = numberDown (moduliDown p cuts) (remaindersDown (moduliDown p cuts) (values neg i1 cuts (moduliDown p cuts) x))
+ownerDown neg p cuts i1 x = numberUp (moduliDown p cuts) (remaindersDown (moduliDown p cuts) (values neg i1 cuts (moduliDown p cuts) x))
 
 -- every processor owns a p-th of the tiles of each slab
 pub even-ownersDown : (neg p b1 : ℕ) (cuts : List ℕ) → zero < p → p ∣ neg + 1 → EvenDown p b1 cuts → (k s q : ℕ) → s < placeDown k b1 cuts → q < p
@@ -172,9 +172,12 @@ even-ownersDown neg p b1 cuts l n even k s q inside h = share q h ∙ sym (div-e
     share q h =
         slabTotal-ext k s b1 cuts inside
         (λ i1 x a w. sym (hits-number p cuts (values neg i1 cuts (moduliDown p cuts) x) q l (subst⁻¹ (λ (y : ℕ). q < y) full h)))
-        ∙ slab-part neg p b1 cuts (digitsDown (moduliDown p cuts) q) k s l n even inside (digits-below p cuts q l)
+        ∙ slab-part neg p b1 cuts (digitsUp (moduliDown p cuts) q) k s l n even inside (digits-below p cuts q l)
 
     whole : p * part k p b1 cuts ≡ othersDown k b1 cuts
     whole =
         equal-shares k s b1 cuts p (part k p b1 cuts) (ownerDown neg p cuts) inside
-        (λ i1 x a w. subst (λ (y : ℕ). ownerDown neg p cuts i1 x < y) full (number-below p cuts (values neg i1 cuts (moduliDown p cuts) x) l)) share
+        (λ i1 x a w.
+        subst (λ (y : ℕ). ownerDown neg p cuts i1 x < y) full
+        (number-up-below (moduliDown p cuts) _ (remainders-inside p cuts (values neg i1 cuts (moduliDown p cuts) x) l)))
+        share

@@ -1,15 +1,15 @@
--- Digits in mixed radix: a number and its digits are made from each other. The first digit is multiplied by all later bases, and the others
--- are the same question for the later bases.
-use mathlib.Core.Path.{_≡_, refl, sym, ap, ap₂, _∙_, subst⁻¹}
+-- Digits in mixed radix: a number and its digits are made from each other. With the last digit fastest the first digit is multiplied by all
+-- later bases, with the first fastest it is the remainder; the others are the same question for the later bases.
+use mathlib.Core.Path.{_≡_, refl, sym, ap, ap₂, _∙_, subst, subst⁻¹}
 use mathlib.Core.List.{List, [], _∷_, reverse, reverseAux}
 use Prim.Native.Nat.{ℕ, zero, suc, _+_, _*_, _/_, _%_, _<_, _≤_}
-use native.Mathlib.Nat.{zero-lt-suc, suc-ne-zero, suc-inj, mul-pos, mod-lt, mod-one, mod-eq-of-lt, mul-add-div-right, mul-add-mod-self-right}
+use native.Mathlib.Nat.{zero-lt-suc, suc-ne-zero, suc-inj, mul-pos, mul-comm, mod-lt, mod-one, mod-eq-of-lt, div-one, div-add-mod', div-lt-iff-lt-mul, div-div-eq-div-mul, mul-add-div-right, mul-add-mod-self-right}
 use native.Mathlib.Omega.{arith}
-use lib.Arith.{digits-lt, digits-div, mod-mul}
-use lib.ListN.{length, getD, set, drop}
+use lib.Arith.{lt-one, digits-lt, digits-div, digits-mod, mod-mul}
+use lib.ListN.{length, getD, set, take, drop}
 use Rattle.numbers.specs.Products.{product}
 use Rattle.multipartition.specs.Lists.{first, rest}
-use Rattle.multipartition.specs.MixedRadix.{numberFrom, digitsOf}
+use Rattle.multipartition.specs.MixedRadix.{numberFrom, digitsOf, numberUp, digitsUp}
 use Rattle.multipartition.specs.Tiles.{Inside}
 
 -- no base is 0
@@ -161,26 +161,80 @@ number-set (b ∷ bases) (c ∷ digits) (suc k) x l m =
       number-set bases digits k x (omega arith) (omega arith),
     )
 
--- ---- from the last base on: bases and digits reversed
+-- ---- the first digit fastest
 
--- the number of the digits
-unfoldable pub numberDown : List ℕ → List ℕ → ℕ
-numberDown [] digits = 0
-numberDown (b ∷ bases) digits = numberDown bases (rest digits) * b + first digits
+pub number-up-below : (bases digits : List ℕ) → Inside bases digits → numberUp bases digits < product bases
+unfolding numberUp Inside
+number-up-below [] [] h = zero-lt-suc 0
+number-up-below [] (c ∷ digits) h = absurd h
+number-up-below (b ∷ bases) [] h = absurd h
+number-up-below (b ∷ bases) (c ∷ digits) h = omega (arith, digits-lt (number-up-below bases digits (h .1)) (h .0))
 
--- the digits of a number
-unfoldable pub digitsDown : List ℕ → ℕ → List ℕ
-digitsDown [] n = []
-digitsDown (b ∷ bases) n = (n % b) ∷ digitsDown bases (n / b)
+pub digits-up-inside : (bases : List ℕ) (n : ℕ) → Positive bases → Inside bases (digitsUp bases n)
+unfolding digitsUp Inside Positive
+digits-up-inside [] n h = tt
+digits-up-inside (b ∷ bases) n h = (mod-lt n (h .0), digits-up-inside bases (n / b) (h .1))
+
+pub digits-of-number-up : (bases digits : List ℕ) → Inside bases digits → digitsUp bases (numberUp bases digits) ≡ digits
+unfolding digitsUp numberUp Inside
+digits-of-number-up [] [] h = refl
+digits-of-number-up [] (c ∷ digits) h = absurd h
+digits-of-number-up (b ∷ bases) [] h = absurd h
+digits-of-number-up (b ∷ bases) (c ∷ digits) h =
+    ap₂ (λ (c : ℕ) (digits : List ℕ). c ∷ digits)
+    (ap (λ (x : ℕ). x % b) regroup ∙ digits-mod (numberUp bases digits) (h .0))
+    (ap (λ (x : ℕ). digitsUp bases (x / b)) regroup
+    ∙ ap (digitsUp bases) (digits-div (numberUp bases digits) (h .0))
+    ∙ digits-of-number-up bases digits (h .1))
+  where
+    regroup : c + b * numberUp bases digits ≡ numberUp bases digits * b + c
+    regroup = omega arith
+
+pub number-of-digits-up : (bases : List ℕ) (n : ℕ) → Positive bases → n < product bases → numberUp bases (digitsUp bases n) ≡ n
+unfolding digitsUp numberUp Positive
+number-of-digits-up [] n h l = sym (lt-one l)
+number-of-digits-up (b ∷ bases) n h l =
+    ap (λ (x : ℕ). n % b + b * x)
+    (number-of-digits-up bases (n / b) (h .1)
+    (div-lt-iff-lt-mul (h .0) .1 (subst (λ (x : ℕ). n < x) (mul-comm b (product bases)) l)))
+    ∙ omega (arith, div-add-mod' n b)
+
+pub length-digits-up : (bases : List ℕ) (n : ℕ) → length (digitsUp bases n) ≡ length bases
+unfolding digitsUp
+length-digits-up [] n = refl
+length-digits-up (b ∷ bases) n = ap suc (length-digits-up bases (n / b))
+
+-- the digit at place k, counted from 0
+pub digit-up-at : (bases : List ℕ) (n k : ℕ) → k < length bases → getD (digitsUp bases n) k 0 ≡ n / product (take k bases) % getD bases k 0
+unfolding digitsUp
+digit-up-at [] n k l = absurd (omega arith)
+digit-up-at (b ∷ bases) n zero l = ap (λ (x : ℕ). x % b) (sym (div-one n))
+digit-up-at (b ∷ bases) n (suc k) l =
+    digit-up-at bases (n / b) k (omega arith)
+    ∙ ap (λ (x : ℕ). x % getD bases k 0) (div-div-eq-div-mul n b (product (take k bases)))
+
+-- another digit at place k counts as often as all earlier bases multiply to
+pub number-up-set : (bases digits : List ℕ) (k x : ℕ) → k < length bases → k < length digits
+    → numberUp bases (set digits k x) + getD digits k 0 * product (take k bases) ≡ numberUp bases digits + x * product (take k bases)
+unfolding numberUp
+number-up-set [] digits k x l m = absurd (omega arith)
+number-up-set (b ∷ bases) [] k x l m = absurd (omega arith)
+number-up-set (b ∷ bases) (c ∷ digits) zero x l m = omega arith
+number-up-set (b ∷ bases) (c ∷ digits) (suc k) x l m =
+    omega (arith, ap (λ (n : ℕ). b * n) (number-up-set bases digits k x (omega arith) (omega arith)))
+
+-- ---- with bases and digits reversed, the last digit fastest is the first fastest
 
 number-reverseAux : (bases digits bases' digits' : List ℕ) → length digits ≡ length bases
-    → numberFrom (numberDown bases' digits') bases digits ≡ numberDown (reverseAux bases bases') (reverseAux digits digits')
-unfolding numberDown numberFrom
+    → numberFrom (numberUp bases' digits') bases digits ≡ numberUp (reverseAux bases bases') (reverseAux digits digits')
+unfolding numberUp numberFrom
 number-reverseAux [] [] bases' digits' e = refl
 number-reverseAux [] (i ∷ digits) bases' digits' e = absurd (suc-ne-zero (length digits) e)
 number-reverseAux (b ∷ bases) [] bases' digits' e = absurd (suc-ne-zero (length bases) (sym e))
-number-reverseAux (b ∷ bases) (i ∷ digits) bases' digits' e = number-reverseAux bases digits (b ∷ bases') (i ∷ digits') (suc-inj e)
+number-reverseAux (b ∷ bases) (i ∷ digits) bases' digits' e =
+    let regroup : numberUp bases' digits' * b + i ≡ i + b * numberUp bases' digits' = omega arith in
+    ap (λ (n : ℕ). numberFrom n bases digits) regroup ∙ number-reverseAux bases digits (b ∷ bases') (i ∷ digits') (suc-inj e)
 
-pub number-reverse : (bases digits : List ℕ) → length digits ≡ length bases → numberFrom 0 bases digits ≡ numberDown (reverse bases) (reverse digits)
-unfolding numberDown
+pub number-reverse : (bases digits : List ℕ) → length digits ≡ length bases → numberFrom 0 bases digits ≡ numberUp (reverse bases) (reverse digits)
+unfolding numberUp
 number-reverse bases digits e = number-reverseAux bases digits [] [] e

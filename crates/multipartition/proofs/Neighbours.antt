@@ -6,12 +6,12 @@ use mathlib.Core.Logic.{_≢_, _↔_}
 use mathlib.Core.Bool.{Bool, true, false, not, cond}
 use mathlib.Core.List.{List, [], _∷_}
 use mathlib.Core.Option.{none, some, Option·some-injective, Option·none-ne-some, Option·some-ne-none}
-use Prim.Native.Nat.{ℕ, zero, suc, _+_, _-_, _*_, _/_, _%_, _<_}
+use Prim.Native.Nat.{ℕ, zero, suc, _+_, _-_, _*_, _/_, _%_, _<_, _≤_}
 use native.Mathlib.Nat.{mod-lt, mod-mod, mod-eq-of-lt, mod-add-mod, div-add-mod}
 use native.Mathlib.Omega.{arith}
 use borrow.Author.Tests.{eqb-true, eqb-false, eq-eqb, ne-eqb}
 use lib.Dec.{eqb}
-use lib.ListN.{length, getD, set}
+use lib.ListN.{length, getD, set, take}
 use lib.Seq.{getD-set-same, set-set}
 use Rattle.numbers.specs.Products.{product}
 use Rattle.numbers.proofs.Congruence.{Congruent, add-multiple}
@@ -19,11 +19,11 @@ use Rattle.multipartition.specs.Lists.{first, rest, firstList, restLists
 use Rattle.multipartition.specs.MixedRadix.{numberFrom, digitsOf}
 use Rattle.multipartition.specs.Owners.{times, coordinatesAt, ownerAt}
 use Rattle.multipartition.specs.Neighbours.{columnOf, turn, turned, nextOwner, neighbourAt}
-use Rattle.multipartition.specs.Tiles.{Inside, oneStepOn}
+use Rattle.multipartition.specs.Tiles.{Inside, positionOf, oneStepOn}
 use Rattle.multipartition.specs.Plans.{entryAt}
 use Rattle.multipartition.proofs.WholeNumbers.{remainder-difference}
 use Rattle.multipartition.proofs.MixedRadix.{Positive, first-at, rest-at, number-below, digits-inside, digits-of-number, number-of-digits}
-use Rattle.multipartition.proofs.Tiles.{inside-length, up-taken, one-step-on-inside, step-back}
+use Rattle.multipartition.proofs.Tiles.{inside-length, position-inside, coordinate-of-tile, position-one-down, step-down, up-taken, one-step-on-inside, step-back}
 use Rattle.multipartition.proofs.Owners.{digits-of-owner}
 
 -- ---- a row times a position, one step on
@@ -205,6 +205,26 @@ neighbour-owns cuts moduli matrix positive k false x y l w e =
     ∙ ap some
     (ap (λ (v : List ℕ). nextOwner moduli matrix k false (ownerAt moduli matrix v)) (sym (taken .1))
     ∙ owner-down moduli matrix positive y k (omega (arith, inside-length cuts y w')))
+
+-- By tile numbers: the number one step down along k is lower by as many tiles as the cuts before k multiply to.
+pub owner-one-down : (cuts moduli : List ℕ) (matrix : List (List ℕ)) → Positive moduli → (tile k : ℕ) → 1 ≤ tile → tile ≤ product cuts → k < length cuts
+    → 1 ≤ (tile - 1) / product (take k cuts) % getD cuts k 0
+    → ownerAt moduli matrix (positionOf cuts (tile - product (take k cuts))) ≡ nextOwner moduli matrix k false (ownerAt moduli matrix (positionOf cuts tile))
+owner-one-down cuts moduli matrix positive tile k low high l above =
+    ap (ownerAt moduli matrix) (position-one-down cuts tile k low high l inner)
+    ∙ sym (neighbour-answer cuts moduli matrix k false _ _ (neighbour-owns cuts moduli matrix positive k false here next l (position-inside cuts tile low high) step) .1)
+  where
+    here : List ℕ
+    here = positionOf cuts tile
+
+    next : List ℕ
+    next = set here k (getD here k 0 - 1)
+
+    inner : zero < getD here k 0
+    inner = omega (arith, above, coordinate-of-tile cuts tile k l)
+
+    step : oneStepOn cuts k false here ≡ some next
+    step = step-down cuts here k (getD here k 0 - 1) (omega (arith, inner))
 
 -- A processor's neighbour has that processor for its neighbour in the other direction: up then down comes back.
 pub neighbour-returns : (cuts moduli : List ℕ) (matrix : List (List ℕ)) → Positive moduli → (k : ℕ) (up : Bool) (q r : ℕ) → q < product moduli

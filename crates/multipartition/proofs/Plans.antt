@@ -1,6 +1,6 @@
 -- Plans in shape (document 01, "Where each call turns back"). Each has one neighbour in each direction, since its moduli multiply to p and so
 -- are not 0. The planner's plans are in shape: their cuts are small because they are minimal, and their moduli multiply to p because they are even.
-use mathlib.Core.Path.{_≡_, subst⁻¹}
+use mathlib.Core.Path.{_≡_, subst, subst⁻¹}
 use mathlib.Core.Logic.{_↔_, _≢_}
 use mathlib.Core.Bool.{Bool, true, not, _&&_}
 use mathlib.Core.List.{List}
@@ -23,6 +23,7 @@ use Rattle.multipartition.proofs.MixedRadix.{Positive}
 use Rattle.multipartition.proofs.Tiles.{positive-of-product}
 use Rattle.multipartition.proofs.Moduli.{length-moduli, moduli-positive, moduli-product}
 use Rattle.multipartition.proofs.Matrix.{matrix-entry-below}
+use Rattle.multipartition.proofs.Owners.{owner-below-product}
 use Rattle.multipartition.proofs.Neighbours.{neighbour-owns, neighbour-returns, neighbour-injective}
 use Rattle.multipartition.proofs.Fitting.{fits-positive, fits-thickness, le-mul-of-pos}
 use Rattle.multipartition.proofs.Minimal.{positive-at}
@@ -117,6 +118,12 @@ module _ (plan : Layout) (shape : inShape plan ≡ true) where
   -- so no modulus is 0
   pub in-shape-moduli-positive : Positive (plan .moduli)
   in-shape-moduli-positive = positive-of-product (plan .moduli) (subst⁻¹ (λ (n : ℕ). zero < n) (moduli-checked .1) (moduli-checked .0))
+
+  -- every owner is a processor
+  pub in-shape-owner-below : (x : List ℕ) → ownerAt (plan .moduli) (plan .matrix) x < plan .p
+  in-shape-owner-below x =
+      subst (λ (n : ℕ). ownerAt (plan .moduli) (plan .matrix) x < n) (moduli-checked .1)
+      (owner-below-product (plan .moduli) (plan .matrix) x in-shape-moduli-positive)
 
   processor-below : (q : ℕ) → q < plan .p → q < product (plan .moduli)
   processor-below q l = subst⁻¹ (λ (n : ℕ). q < n) (moduli-checked .1) l

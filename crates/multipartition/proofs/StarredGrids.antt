@@ -8,7 +8,7 @@ use Rattle.multipartition.specs.Lists.{allBelow, firstFailing, listOf, s
 use Rattle.multipartition.specs.Cuts.{isEven, cutsWithin, mostOf, cutCost, notLater, notMore, precedes, preferred, chosen, cheapestWithin}
 use Rattle.multipartition.specs.Moduli.{moduliOf}
 use Rattle.multipartition.specs.Matrix.{remainder, finish, finishedRows, rowsOf, remaindersOf, matrixOf}
-use Rattle.multipartition.specs.MixedRadix.{numberFrom, digitsOf}
+use Rattle.multipartition.specs.MixedRadix.{numberFrom, digitsOf, digitsUp}
 use Rattle.multipartition.specs.Owners.{times, coordinatesAt, ownerAt}
 use Rattle.multipartition.specs.Neighbours.{columnOf, turn, turned, nextOwner, neighbourAt}
 use Rattle.multipartition.specs.Tiles.{positionOf}
@@ -18,5 +18,5 @@ use Rattle.multipartition.specs.StarredGrids.{Grid, figureOf, computed, 
 
 -- every figure of every starred grid
 pub starred-grids : map computed starred ≡ map (λ (grid : Grid). grid .answer) starred
-unfolding gcd same allBelow firstFailing listOf startingWith those isEven cutsWithin mostOf cutCost notLater notMore precedes preferred chosen cheapestWithin moduliOf remainder finish finishedRows rowsOf remaindersOf matrixOf numberFrom digitsOf times coordinatesAt ownerAt columnOf turn turned nextOwner neighbourAt positionOf lowest headsOf nextsOf headsAt nextsAt planWith planAnswer figureOf
+unfolding gcd same allBelow firstFailing listOf startingWith those isEven cutsWithin mostOf cutCost notLater notMore precedes preferred chosen cheapestWithin moduliOf remainder finish finishedRows rowsOf remaindersOf matrixOf numberFrom digitsOf digitsUp times coordinatesAt ownerAt columnOf turn turned nextOwner neighbourAt positionOf lowest headsOf nextsOf headsAt nextsAt planWith planAnswer figureOf
 starred-grids = refl

@@ -9,15 +9,15 @@ use Prim.Native.Nat.{ℕ, zero, suc, _+_, _-_, _*_, _/_, _%_, _<_, _≤_}
 use native.Mathlib.Nat.{mod-lt, mod-eq-of-lt, div-add-mod', div-lt-iff-lt-mul}
 use native.Mathlib.Omega.{arith}
 use lib.Dec.{ltb, eqb}
-use lib.ListN.{length, getD, set, drop, length-append, length-map, List·getD-append}
+use lib.ListN.{length, getD, set, take, length-append, length-map, List·getD-append}
 use lib.Seq.{getD-append-add, getD-set-same, set-set, set-getD}
 use borrow.Author.Tests.{ltb-true, ltb-false, lt-ltb, le-ltb, eqb-true, eqb-false, eq-eqb, ne-eqb}
 use Rattle.numbers.specs.Products.{product}
 use Rattle.multipartition.specs.Lists.{startingWith}
-use Rattle.multipartition.specs.MixedRadix.{numberFrom, digitsOf}
+use Rattle.multipartition.specs.MixedRadix.{numberFrom, digitsOf, numberUp}
 use Rattle.multipartition.specs.Tiles.{Inside, isInside, positions, tileNumber, positionOf, oneStepOn, AtEdge}
 use Rattle.multipartition.proofs.Tests.{and-true-iff}
-use Rattle.multipartition.proofs.MixedRadix.{Positive, number-below, digits-inside, digits-from, digits-of-number, number-of-digits, number-set}
+use Rattle.multipartition.proofs.MixedRadix.{Positive, digits-inside, digits-from, digits-of-number, number-of-digits, number-up-below, digits-up-inside, digits-of-number-up, number-of-digits-up, length-digits-up, digit-up-at, number-up-set}
 
 -- ---- inside the grid
 
@@ -78,9 +78,20 @@ positive-of-product [] h = tt
 positive-of-product (b ∷ cuts) h =
     (factors-positive b (product cuts) h .0, positive-of-product cuts (factors-positive b (product cuts) h .1))
 
+-- the last slab of each dimension
+top-inside : (cuts : List ℕ) → Positive cuts → Inside cuts (map (λ b. b - 1) cuts)
+unfolding Inside Positive
+top-inside [] h = tt
+top-inside (b ∷ cuts) h = (omega (arith, h .0), top-inside cuts (h .1))
+
+pub getD-map : {A B : Type 0} (f : A → B) (a : A) (b : B) (xs : List A) (j : ℕ) → j < length xs → getD (map f xs) j b ≡ f (getD xs j a)
+getD-map f a b [] j l = absurd (omega arith)
+getD-map f a b (x ∷ xs) zero l = refl
+getD-map f a b (x ∷ xs) (suc j) l = getD-map f a b xs j (omega arith)
+
 -- ---- tile numbers
 
-tile-number : (cuts position : List ℕ) → tileNumber cuts position ≡ 1 + numberFrom 0 cuts position
+tile-number : (cuts position : List ℕ) → tileNumber cuts position ≡ 1 + numberUp cuts position
 unfolding tileNumber
 tile-number cuts position = refl
 
@@ -90,24 +101,48 @@ number-low cuts position = omega arith
 
 pub number-high : (cuts position : List ℕ) → Inside cuts position → tileNumber cuts position ≤ product cuts
 unfolding tileNumber
-number-high cuts position h = omega (arith, number-below cuts position h)
+number-high cuts position h = omega (arith, number-up-below cuts position h)
 
 pub position-inside : (cuts : List ℕ) (tile : ℕ) → 1 ≤ tile → tile ≤ product cuts → Inside cuts (positionOf cuts tile)
 unfolding positionOf
-position-inside cuts tile low high = digits-inside cuts (tile - 1) (positive-of-product cuts (omega arith))
+position-inside cuts tile low high = digits-up-inside cuts (tile - 1) (positive-of-product cuts (omega arith))
 
 pub position-of-number : (cuts position : List ℕ) → Inside cuts position → positionOf cuts (tileNumber cuts position) ≡ position
 unfolding positionOf tileNumber
 position-of-number cuts position h =
-    let shift : 1 + numberFrom 0 cuts position - 1 ≡ numberFrom 0 cuts position = omega arith in
-    rw shift (digits-of-number cuts position (positive-of-inside cuts position h) h)
+    let shift : 1 + numberUp cuts position - 1 ≡ numberUp cuts position = omega arith in
+    rw shift (digits-of-number-up cuts position h)
 
 pub number-of-position : (cuts : List ℕ) (tile : ℕ) → 1 ≤ tile → tile ≤ product cuts → tileNumber cuts (positionOf cuts tile) ≡ tile
 unfolding positionOf tileNumber
 number-of-position cuts tile low high =
-    omega (arith, number-of-digits cuts (tile - 1) (positive-of-product cuts (omega arith)) (omega arith))
+    omega (arith, number-of-digits-up cuts (tile - 1) (positive-of-product cuts (omega arith)) (omega arith))
 
--- ---- all positions, in the order of their numbers
+-- the coordinate along k, counted from 0
+pub coordinate-of-tile : (cuts : List ℕ) (tile k : ℕ) → k < length cuts → getD (positionOf cuts tile) k 0 ≡ (tile - 1) / product (take k cuts) % getD cuts k 0
+unfolding positionOf
+coordinate-of-tile cuts tile k l = digit-up-at cuts (tile - 1) k l
+
+-- the highest tile has the highest coordinates
+top-number : (cuts : List ℕ) → Positive cuts → 1 + numberUp cuts (map (λ b. b - 1) cuts) ≡ product cuts
+unfolding numberUp Positive
+top-number [] h = refl
+top-number (b ∷ cuts) h =
+    let whole : b * product cuts ≡ b - 1 + 1 + b * numberUp cuts (map (λ b. b - 1) cuts) = ap (λ (n : ℕ). b * n) (sym (top-number cuts (h .1))) ∙ omega (arith, h .0) in
+    omega (arith, whole, h .0)
+
+pub top-position : (cuts : List ℕ) → Positive cuts → (k : ℕ) → k < length cuts → getD (positionOf cuts (product cuts)) k 0 ≡ getD cuts k 0 - 1
+unfolding tileNumber
+top-position cuts h k l =
+    ap (λ (x : List ℕ). getD x k 0)
+    (ap (positionOf cuts) (sym (top-number cuts h)) ∙ position-of-number cuts (map (λ b. b - 1) cuts) (top-inside cuts h))
+    ∙ getD-map (λ b. b - 1) 0 0 cuts k l
+
+pub length-position : (cuts : List ℕ) (tile : ℕ) → length (positionOf cuts tile) ≡ length cuts
+unfolding positionOf
+length-position cuts tile = length-digits-up cuts (tile - 1)
+
+-- ---- all positions, the last dimension running fastest
 
 length-starting : (from n : ℕ) (xs : List (List ℕ)) → length (startingWith from n xs) ≡ n * length xs
 unfolding startingWith
@@ -115,11 +150,6 @@ length-starting from zero xs = omega arith
 length-starting from (suc n) xs =
     length-append (map (λ x. from ∷ x) xs) (startingWith (suc from) n xs)
     ∙ omega (arith, length-map xs (λ x. from ∷ x), length-starting (suc from) n xs)
-
-getD-in-front : (i : ℕ) (xs : List (List ℕ)) (j : ℕ) → j < length xs → getD (map (λ x. i ∷ x) xs) j [] ≡ i ∷ getD xs j []
-getD-in-front i [] j l = absurd (omega arith)
-getD-in-front i (x ∷ xs) zero l = refl
-getD-in-front i (x ∷ xs) (suc j) l = getD-in-front i xs j (omega arith)
 
 getD-starting : (from n : ℕ) (xs : List (List ℕ)) (i j : ℕ) → i < n → j < length xs
     → getD (startingWith from n xs) (i * length xs + j) [] ≡ (from + i) ∷ getD xs j []
@@ -130,7 +160,7 @@ getD-starting from (suc n) xs zero j li lj =
     let digit : from + 0 ≡ from = omega arith in
     let long : length (map (λ x. from ∷ x) xs) ≡ length xs = length-map xs (λ x. from ∷ x) in
     rw (index, digit)
-    (List·getD-append (map (λ x. from ∷ x) xs) (startingWith (suc from) n xs) [] j (omega arith) ∙ getD-in-front from xs j lj)
+    (List·getD-append (map (λ x. from ∷ x) xs) (startingWith (suc from) n xs) [] j (omega arith) ∙ getD-map (λ x. from ∷ x) [] [] xs j lj)
 getD-starting from (suc n) xs (suc i) j li lj =
     let long : length (map (λ x. from ∷ x) xs) ≡ length xs = length-map xs (λ x. from ∷ x) in
     let index : suc i * length xs + j ≡ length (map (λ x. from ∷ x) xs) + (i * length xs + j) = omega arith in
@@ -160,11 +190,6 @@ positions-at (b ∷ cuts) n l =
     ∙ sym (digits-from (n / product cuts) (n % product cuts) cuts (positive-of-product cuts some-tiles))
     ∙ ap (digitsOf cuts) (div-add-mod' n (product cuts)))
 
--- the list of all positions has tile t's at place t - 1, places counted from 0
-pub positions-in-order : (cuts : List ℕ) (tile : ℕ) → 1 ≤ tile → tile ≤ product cuts → getD (positions cuts) (tile - 1) [] ≡ positionOf cuts tile
-unfolding positionOf
-positions-in-order cuts tile low high = positions-at cuts (tile - 1) (omega arith)
-
 -- every place of it holds a position inside the grid
 pub positions-inside : (cuts : List ℕ) (n : ℕ) → n < length (positions cuts) → Inside cuts (getD (positions cuts) n [])
 positions-inside cuts n l =
@@ -173,13 +198,10 @@ positions-inside cuts n l =
 
 -- every position inside the grid stands at one place of it, and at no other
 pub positions-once : (cuts position : List ℕ) (n : ℕ) → Inside cuts position → n < length (positions cuts)
-    → (getD (positions cuts) n [] ≡ position) ↔ (suc n ≡ tileNumber cuts position)
-unfolding tileNumber
+    → (getD (positions cuts) n [] ≡ position) ↔ (n ≡ numberFrom 0 cuts position)
 positions-once cuts position n h l = (
-  λ e. omega (arith, number-of-digits cuts n positive within, ap (numberFrom 0 cuts) (sym (positions-at cuts n within) ∙ e)),
-  λ e.
-      let same : n ≡ numberFrom 0 cuts position = omega arith in
-      positions-at cuts n within ∙ ap (digitsOf cuts) same ∙ digits-of-number cuts position positive h,
+  λ e. sym (number-of-digits cuts n positive within) ∙ ap (numberFrom 0 cuts) (sym (positions-at cuts n within) ∙ e),
+  λ e. positions-at cuts n within ∙ ap (digitsOf cuts) e ∙ digits-of-number cuts position positive h,
 )
   where
     within : n < product cuts
@@ -301,9 +323,9 @@ step-back cuts position next k false h e =
 
 -- ---- how far a step leads
 
--- The tile one step down along k has the number that is lower by as many tiles as there are with one coordinate up to k.
+-- The tile one step down along k has the number that is lower by as many tiles as the cuts before k multiply to.
 pub position-one-down : (cuts : List ℕ) (tile k : ℕ) → 1 ≤ tile → tile ≤ product cuts → k < length cuts → zero < getD (positionOf cuts tile) k 0
-    → positionOf cuts (tile - product (drop (suc k) cuts)) ≡ set (positionOf cuts tile) k (getD (positionOf cuts tile) k 0 - 1)
+    → positionOf cuts (tile - product (take k cuts)) ≡ set (positionOf cuts tile) k (getD (positionOf cuts tile) k 0 - 1)
 position-one-down cuts tile k low high l above =
     ap (positionOf cuts) lower ∙ position-of-number cuts down (inside-set cuts here k (i - 1) inside below)
   where
@@ -322,15 +344,15 @@ position-one-down cuts tile k low high l above =
     below : i - 1 < getD cuts k 0
     below = omega (arith, inside-below cuts here inside k l)
 
-    part : i * product (drop (suc k) cuts) ≡ (i - 1) * product (drop (suc k) cuts) + product (drop (suc k) cuts)
-    part = let whole : i ≡ i - 1 + 1 = omega (arith, above) in ap (λ (n : ℕ). n * product (drop (suc k) cuts)) whole ∙ omega arith
+    part : i * product (take k cuts) ≡ (i - 1) * product (take k cuts) + product (take k cuts)
+    part = let whole : i ≡ i - 1 + 1 = omega (arith, above) in ap (λ (n : ℕ). n * product (take k cuts)) whole ∙ omega arith
 
-    lower : tile - product (drop (suc k) cuts) ≡ tileNumber cuts down
+    lower : tile - product (take k cuts) ≡ tileNumber cuts down
     lower =
         omega (
           arith,
           part,
-          number-set cuts here k (i - 1) l (omega (arith, inside-length cuts here inside)),
+          number-up-set cuts here k (i - 1) l (omega (arith, inside-length cuts here inside)),
           number-of-position cuts tile low high,
           tile-number cuts here,
           tile-number cuts down,

@@ -82,13 +82,13 @@ starred =
           ∷ up 1 (some 2 ∷ some 3 ∷ some 0 ∷ some 1 ∷ [])
           ∷ up 2 (some 3 ∷ some 2 ∷ some 1 ∷ some 0 ∷ [])
           ∷ up 3 (some 1 ∷ some 0 ∷ some 3 ∷ some 2 ∷ [])
-          ∷ heads (1 ∷ 2 ∷ 4 ∷ 3 ∷ [])
+          ∷ heads (1 ∷ 4 ∷ 2 ∷ 3 ∷ [])
           ∷ nexts (8 ∷ 7 ∷ 6 ∷ 5 ∷ 0 ∷ 0 ∷ 0 ∷ 0 ∷ [])
           ∷ stage 8 (replicate 8 7) (0 ∷ 0 ∷ 0 ∷ 0 ∷ []) (7 ∷ 7 ∷ 7 ∷ 7 ∷ 7 ∷ 7 ∷ 7 ∷ 7 ∷ [])
           ∷ stage 7 (replicate 8 7) (8 ∷ 0 ∷ 0 ∷ 0 ∷ []) (7 ∷ 7 ∷ 7 ∷ 7 ∷ 7 ∷ 7 ∷ 7 ∷ 0 ∷ [])
-          ∷ stage 4 (replicate 8 7) (8 ∷ 7 ∷ 5 ∷ 6 ∷ []) (7 ∷ 7 ∷ 7 ∷ 7 ∷ 0 ∷ 0 ∷ 0 ∷ 0 ∷ [])
-          ∷ stage 2 (replicate 8 7) (8 ∷ 7 ∷ 4 ∷ 3 ∷ []) (7 ∷ 7 ∷ 6 ∷ 5 ∷ 0 ∷ 0 ∷ 0 ∷ 0 ∷ [])
-          ∷ stage 0 (replicate 8 7) (1 ∷ 2 ∷ 4 ∷ 3 ∷ []) (8 ∷ 7 ∷ 6 ∷ 5 ∷ 0 ∷ 0 ∷ 0 ∷ 0 ∷ [])
+          ∷ stage 4 (replicate 8 7) (8 ∷ 5 ∷ 7 ∷ 6 ∷ []) (7 ∷ 7 ∷ 7 ∷ 7 ∷ 0 ∷ 0 ∷ 0 ∷ 0 ∷ [])
+          ∷ stage 2 (replicate 8 7) (8 ∷ 4 ∷ 7 ∷ 3 ∷ []) (7 ∷ 7 ∷ 6 ∷ 5 ∷ 0 ∷ 0 ∷ 0 ∷ 0 ∷ [])
+          ∷ stage 0 (replicate 8 7) (1 ∷ 4 ∷ 2 ∷ 3 ∷ []) (8 ∷ 7 ∷ 6 ∷ 5 ∷ 0 ∷ 0 ∷ 0 ∷ 0 ∷ [])
           ∷ [];
     }
     ∷ record { p = 4; extents = 4 ∷ 4 ∷ 4 ∷ []; weights = 0 ∷ 0 ∷ 0 ∷ []; least = []; answer = cuts (2 ∷ 2 ∷ 2 ∷ []) ∷ cost 0 ∷ [] }

@@ -1,4 +1,4 @@
--- Tile numbers and positions (document 01, "Tiles, slabs, chains"). Dimension k is counted from 0; true is up.
+-- Tile numbers and positions (document 01, "Tiles, slabs, chains"; document 02, request i). Dimension k is counted from 0; true is up.
 use mathlib.Core.Bool.{Bool, true, false, cond, _&&_}
 use mathlib.Core.List.{List, [], _∷_}
 use mathlib.Core.Option.{Option, none, some}
@@ -7,7 +7,7 @@ use Prim.Native.Nat.{ℕ, suc, _+_, _-_, _<_}
 use lib.Dec.{ltb, eqb}
 use lib.ListN.{getD, set}
 use Rattle.multipartition.specs.Lists.{startingWith}
-use Rattle.multipartition.specs.MixedRadix.{numberFrom, digitsOf}
+use Rattle.multipartition.specs.MixedRadix.{numberUp, digitsUp}
 
 -- a position inside the grid of some cuts: a coordinate below each cut
 unfoldable pub Inside : List ℕ → List ℕ → Type 0
@@ -23,18 +23,18 @@ isInside [] (i ∷ position) = false
 isInside (b ∷ cuts) [] = false
 isInside (b ∷ cuts) (i ∷ position) = ltb i b && isInside cuts position
 
--- all positions of the grid, in the order of their numbers
+-- all positions of the grid, each once
 unfoldable pub positions : List ℕ → List (List ℕ)
 positions [] = [] ∷ []
 positions (b ∷ cuts) = startingWith 0 b (positions cuts)
 
--- "Tile number = 1 + (((i1·b2 + i2)·b3 + i3) ...), the last dimension running fastest."
+-- "A tile's number is now 1 + i1 + b1·(i2 + b2·(i3 + ...))" (document 02, request i)
 unfoldable pub tileNumber : List ℕ → List ℕ → ℕ
-tileNumber cuts position = 1 + numberFrom 0 cuts position
+tileNumber cuts position = 1 + numberUp cuts position
 
--- "A tile number gives its position."
+-- "and the position of a number follows"
 unfoldable pub positionOf : List ℕ → ℕ → List ℕ
-positionOf cuts tile = digitsOf cuts (tile - 1)
+positionOf cuts tile = digitsUp cuts (tile - 1)
 
 -- "its position one step on, or 'edge' if that step leaves the grid": none is the edge
 unfoldable pub oneStepOn : List ℕ → ℕ → Bool → List ℕ → Option (List ℕ)

@@ -3,7 +3,7 @@ use mathlib.Core.Path.{_≡_, refl, sym, ap, _∙_}
 use mathlib.Core.Bool.{Bool, true, false, not, cond}
 use mathlib.Core.List.{List, [], _∷_, _++_, map}
 use mathlib.Core.Logic.{_↔_}
-use Prim.Native.Nat.{ℕ, zero, suc, _+_, _-_, _≤_, _<_}
+use Prim.Native.Nat.{ℕ, suc, _+_, _-_, _≤_, _<_}
 use native.Mathlib.Decide.{decLe}
 use native.Mathlib.Omega.{arith}
 use borrow.Author.Tests.{leb-true, le-leb, ltb-false, eqb-true, eq-eqb, ne-eqb, not-false}
@@ -16,6 +16,7 @@ use Rattle.multipartition.specs.Plans.{Layout, between, inShape}
 use Rattle.multipartition.specs.Slabs.{slabOf}
 use Rattle.multipartition.specs.Questions.{extentOf, cutOf, shapeCheck, dimensionCheck, rangeCheck, lengthCheck, slabOfAnswer}
 use Rattle.multipartition.proofs.Answers.{answers-iff}
+use Rattle.multipartition.proofs.Tiles.{getD-map}
 use Rattle.multipartition.proofs.BothWays.{slab-of-answered}
 use Rattle.probes.specs.Probes.{allWithin, firstFall, risingCheck, slabsInto, probesAnswer}
 use Rattle.probes.specs.SingleQuestions.{FallsFirst, Answerable, Singly}
@@ -29,17 +30,12 @@ refusal (refused number place) = refused number place
 
 -- ---- the second list, place by place
 
-getD-map : (f : ℕ → ℕ) (xs : List ℕ) (i : ℕ) → i < length xs → getD (map f xs) i 0 ≡ f (getD xs i 0)
-getD-map f [] i l = absurd (omega arith)
-getD-map f (x ∷ xs) zero l = refl
-getD-map f (x ∷ xs) (suc i) l = getD-map f xs i (omega arith)
-
 module _ (n b : ℕ) (elements lent : List ℕ) where
   pub slabs-front : (i : ℕ) → i < length elements → getD (slabsInto n b elements lent) i 0 ≡ slabOf n b (getD elements i 0)
   unfolding slabsInto
   slabs-front i l =
       List·getD-append (map (slabOf n b) elements) (drop (length elements) lent) 0 i (rw (length-map elements (slabOf n b)) l)
-      ∙ getD-map (slabOf n b) elements i l
+      ∙ getD-map (slabOf n b) 0 0 elements i l
 
   pub slabs-behind : (i : ℕ) → length elements ≤ i → getD (slabsInto n b elements lent) i 0 ≡ getD lent i 0
   unfolding slabsInto

@@ -28,7 +28,7 @@ use Rattle.timetable.specs.Rows.{placesOf, elementsOf, RowTable, lineIn,
 use Rattle.timetable.proofs.Faces.{Cut, held-faces-add-up}
 use Rattle.timetable.proofs.Rows.{flat, product-set, places-inside}
 use Rattle.timetable.proofs.Steps.{faces-of-lines}
-use Rattle.timetable.proofs.Timetable.{owner-by-below}
+use Rattle.multipartition.proofs.Plans.{in-shape-owner-below}
 
 -- ---- a list with 1 in one place
 
@@ -196,7 +196,7 @@ module _ (plan : Plan) (s : Shaped plan) where
   plan-faces-fit k v q lk lv lq =
       subst (λ (n : ℕ). facesHeld (layoutOf plan .extents) (layoutOf plan .cuts) (ownerBy (layoutOf plan)) k v q ≤ n)
       (held-faces-add-up (layoutOf plan .extents) (layoutOf plan .cuts) (ownerBy (layoutOf plan)) k (plan .p) v
-      (λ x w. owner-by-below (layoutOf plan) (in-shape-of-shaped plan s) x) same-lengths layout-cut (in-layout k lk)
+      (λ x w. in-shape-owner-below (layoutOf plan) (in-shape-of-shaped plan s) x) same-lengths layout-cut (in-layout k lk)
       (subst⁻¹ (λ (n : ℕ). v < n) (cut-at plan k lk) lv)
       ∙ ap (λ (n : ℕ). product (without n (layoutOf plan .extents))) at)
       (sum-term-le (plan .p) q (facesHeld (layoutOf plan .extents) (layoutOf plan .cuts) (ownerBy (layoutOf plan)) k v) lq)

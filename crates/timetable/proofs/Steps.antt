@@ -20,12 +20,11 @@ use Rattle.multipartition.specs.Tiles.{Inside, oneStepOn}
 use Rattle.multipartition.proofs.GridSums.{sum-cong, same-iff}
 use Rattle.multipartition.proofs.MixedRadix.{Positive}
 use Rattle.multipartition.proofs.Neighbours.{neighbour-some, next-owner-below, next-owner-back}
-use Rattle.multipartition.proofs.Plans.{in-shape-iff, in-shape-moduli-positive, in-shape-neighbour-owns}
+use Rattle.multipartition.proofs.Plans.{in-shape-iff, in-shape-moduli-positive, in-shape-owner-below, in-shape-neighbour-owns}
 use Rattle.multipartition.proofs.Tiles.{inside-length, inside-below, inside-set, step-up}
 use Rattle.timetable.specs.Faces.{facesHeld}
 use Rattle.timetable.specs.Rows.{stepsOn, elementsOf, lineOver, lineIn}
 use Rattle.timetable.proofs.Rows.{flat, faces-by-lines}
-use Rattle.timetable.proofs.Timetable.{owner-by-below}
 
 -- ---- steps
 
@@ -112,9 +111,9 @@ module _ (plan : Layout) (shape : inShape plan ≡ true) where
         sum-cong (getD (plan .cuts) j 0) (λ t l.
         ap (λ (n : ℕ). thickness (getD (plan .extents) j 0) (getD (plan .cuts) j 0) t * n)
         (ap (λ (o : ℕ). same o q) (owner-steps j lj y inside z t l)
-        ∙ same-steps (plan .moduli) (plan .matrix) positive j t (own y) q (processor (own y) (owner-by-below plan shape y)) (processor q lq))
+        ∙ same-steps (plan .moduli) (plan .matrix) positive j t (own y) q (processor (own y) (in-shape-owner-below plan shape y)) (processor q lq))
         ∙ mul-comm (thickness (getD (plan .extents) j 0) (getD (plan .cuts) j 0) t) (same (steps j false t q) (own y)))
-        ∙ sym (filled (own y) (le-trans (owner-by-below plan shape y) (facts .p-range .1)))
+        ∙ sym (filled (own y) (le-trans (in-shape-owner-below plan shape y) (facts .p-range .1)))
 
     abbrev n : ℕ
     n = getD (flat k j (plan .extents)) c 0

@@ -23,8 +23,7 @@ use Rattle.multipartition.specs.Rivals.{held}
 use Rattle.multipartition.specs.Tiles.{Inside, oneStepOn}
 use Rattle.multipartition.proofs.GridSums.{sum-cong}
 use Rattle.multipartition.proofs.Neighbours.{neighbour-some, next-owner-below}
-use Rattle.multipartition.proofs.Owners.{owner-below-product}
-use Rattle.multipartition.proofs.Plans.{in-shape-iff, in-shape-moduli-positive, in-shape-neighbour-owns, in-shape-neighbour-returns}
+use Rattle.multipartition.proofs.Plans.{in-shape-iff, in-shape-moduli-positive, in-shape-owner-below, in-shape-neighbour-owns, in-shape-neighbour-returns}
 use Rattle.multipartition.proofs.Tiles.{lt-length, step-up, step-down}
 use Rattle.layout.specs.declared.Plan.{Plan}
 use Rattle.layout.specs.Plans.{layoutOf, planOf}
@@ -86,11 +85,6 @@ none-iff a b o r n h = (λ e. go (ℕ-discrete a b) e, λ e. rw (eq-eqb a b e))
 
 -- ---- any plan in shape
 
-pub owner-by-below : (plan : Layout) → inShape plan ≡ true → (x : List ℕ) → ownerBy plan x < plan .p
-owner-by-below plan shape x =
-    subst (λ (n : ℕ). ownerBy plan x < n) (in-shape-iff plan .0 shape .moduli-product)
-    (owner-below-product (plan .moduli) (plan .matrix) x (in-shape-moduli-positive plan shape))
-
 module _ (plan : Layout) (shape : inShape plan ≡ true) (k : ℕ) where
   facts : InShape plan
   facts = in-shape-iff plan .0 shape
@@ -134,7 +128,7 @@ module _ (plan : Layout) (shape : inShape plan ≡ true) (k : ℕ) where
       back : (x : List ℕ) → Inside (plan .cuts) x → getD x (k - 1) 0 ≡ v → ownerBy plan (set x (k - 1) w) ≡ r → ownerBy plan x ≡ q
       back x inside at own =
           Option·some-injective (ownerBy plan x) q
-          (sym (in-shape-neighbour-returns plan shape (k - 1) up (ownerBy plan x) (ownerBy plan (set x (k - 1) w)) (owner-by-below plan shape x) (onward x inside at))
+          (sym (in-shape-neighbour-returns plan shape (k - 1) up (ownerBy plan x) (ownerBy plan (set x (k - 1) w)) (in-shape-owner-below plan shape x) (onward x inside at))
           ∙ ap (neighbourBy plan k (not up)) own
           ∙ in-shape-neighbour-returns plan shape (k - 1) up q r lq e)
 
@@ -144,7 +138,7 @@ module _ (plan : Layout) (shape : inShape plan ≡ true) (k : ℕ) where
   unfolding facesAt
   faces-add-up extents-many cuts-many up s l =
       held-faces-add-up (plan .extents) (plan .cuts) (ownerBy plan) (k - 1) (plan .p) (slabVisited (cutOf plan k) up s)
-      (λ x inside. owner-by-below plan shape x) (extents-many ∙ sym cuts-many) cut (within (plan .cuts) (k - 1) s l)
+      (λ x inside. in-shape-owner-below plan shape x) (extents-many ∙ sym cuts-many) cut (within (plan .cuts) (k - 1) s l)
       (slab-visited-below (cutOf plan k) up s l)
     where
       cut : Cut (plan .extents) (plan .cuts)

@@ -7,7 +7,7 @@ use lib.Seq.{length-take-le, getD-take}
 use Rattle.layout.specs.Plans.{layoutOf}
 use Rattle.layout.proofs.Shaped.{in-shape-of-shaped}
 use Rattle.questions.proofs.Bounds.{reduced-of-shaped}
-use Rattle.timetable.proofs.Timetable.{owner-by-below}
+use Rattle.multipartition.proofs.Plans.{in-shape-owner-below}
 use borrow.Author.Needs.{needs}
 use Rattle.timetable.proofs.slab_faces.owner.Statement.{statement}
 use Rattle.timetable.proofs.slab_faces.owner.Tie as tie
@@ -38,7 +38,7 @@ returns c =
     let s = c .before .before .before .before .before .before .before in (
       c .owner-number .ensures,
       subst⁻¹ (λ (n : ℕ). n < s .args .t1 .p) (c .owner-number .ensures)
-          (owner-by-below (layoutOf (s .args .t1)) (in-shape-of-shaped (s .args .t1) (s .pre .0)) (take (s .args .t1 .d) (s .args .t2))),
+          (in-shape-owner-below (layoutOf (s .args .t1)) (in-shape-of-shaped (s .args .t1) (s .pre .0)) (take (s .args .t1 .d) (s .args .t2))),
     )
 
 pub owner-spec : {M : Type 1} → statement M
