@@ -2,27 +2,25 @@
 use mathlib.Core.Path.{_≡_, refl, sym, ap, _∙_}
 use mathlib.Core.Bool.{Bool, true, false, _&&_}
 use mathlib.Core.List.{List, [], _∷_, _++_}
-use mathlib.Core.Logic.{_⊎_, inl, inr}
-use Prim.Native.Nat.{ℕ, zero, suc, _*_, _/_, _<_, _≤_}
-use native.Mathlib.Nat.{eq-or-lt-of-le, div-div-eq-div-mul}
+use Prim.Native.Nat.{ℕ, zero, suc, _<_, _≤_}
+use native.Mathlib.Nat.{le-refl, mul-le-mul-right}
 use native.Mathlib.Omega.{arith}
-use lib.Arith.{digits-lt}
 use lib.Dec.{ltb, eqb}
-use lib.ListN.{length, getD, set, take, drop, replicate, length-append, length-replicate, length-set, List·getD-eq-default}
-use lib.Seq.{length-take-le, take-append-le, getD-take, getD-set-same, getD-set-other, take-set-lt, set-append-left, ext-getD}
+use lib.ListN.{length, getD, take, drop, replicate, length-append, length-replicate}
+use lib.Seq.{length-take-le, take-append-le, getD-take, sets}
 use borrow.Author.Tests.{eqb-true}
-use Rattle.numbers.specs.Products.{product}
-use Rattle.multipartition.specs.MixedRadix.{numberFrom}
+use Rattle.multipartition.specs.MixedRadix.{numberUp}
 use Rattle.multipartition.specs.Lists.{allBelow}
-use Rattle.multipartition.specs.Tiles.{isInside}
-use Rattle.multipartition.proofs.MixedRadix.{product-drop}
+use Rattle.multipartition.specs.Tiles.{Inside, isInside}
+use Rattle.multipartition.proofs.MixedRadix.{number-up-below}
+use Rattle.multipartition.proofs.Tiles.{inside-of-below}
 use Rattle.layout.specs.declared.Plan.{Plan}
 use Rattle.layout.specs.Plans.{layoutOf, five}
 use Rattle.layout.specs.Positions.{InGrid}
 use Rattle.layout.specs.Shaped.{Shaped}
-use Rattle.layout.proofs.Lists.{all-ext, product-add-one, product-front}
+use Rattle.layout.proofs.Lists.{all-ext}
+use Rattle.layout.proofs.Places.{cuts-length, cut-at}
 use Rattle.layout.proofs.Positions.{inside-of-plan}
-use Rattle.layout.proofs.Owners.{number-front-below}
 use Rattle.layout.proofs.Plans.{take-five}
 use Rattle.tiles.specs.declared.positions.Position.{Position}
 use Rattle.tiles.specs.Positions.{coordinates, positionWith}
@@ -91,47 +89,36 @@ inside-by-places plan s position =
         all-ext (plan .d) _ _
         (λ k l. ap (λ (i : ℕ). ltb i (getD (plan .cuts) k 0)) (coordinate-at position k (omega (arith, eqb-true (position .d) (plan .d) e))))
 
--- ---- five places, filled from the last number of a list to the first
+-- ---- five places, filled from the first number of a list on
 
--- from place k on they hold the numbers of the list, zero past its end
-pub record Ends (xs : List ℕ) (k : ℕ) (at : List ℕ) : Type 0 where
-  pub long : length at ≡ 5
-  pub end : (i : ℕ) → k ≤ i → getD at i 0 ≡ getD xs i 0
+pub stored : (xs : List ℕ) → length xs ≤ 5 → sets (replicate 5 0) 0 xs ≡ five xs
+stored [] l = refl
+stored (a ∷ []) l = refl
+stored (a ∷ b ∷ []) l = refl
+stored (a ∷ b ∷ c ∷ []) l = refl
+stored (a ∷ b ∷ c ∷ d ∷ []) l = refl
+stored (a ∷ b ∷ c ∷ d ∷ e ∷ []) l = refl
+stored (a ∷ b ∷ c ∷ d ∷ e ∷ f ∷ more) l = absurd (omega arith)
 
-pub ends-none : (xs : List ℕ) → Ends xs (length xs) (replicate 5 0)
-ends-none xs = record { long = refl; end = λ i l. zeros-at 5 i ∙ sym (List·getD-eq-default xs 0 l) }
+-- ---- numbers
 
-pub ends-more : (xs : List ℕ) (k : ℕ) (at : List ℕ) → k < 5 → Ends xs (suc k) at → Ends xs k (set at k (getD xs k 0))
-ends-more xs k at l e =
-    record {
-      long = length-set at k (getD xs k 0) ∙ e .long;
-      end = λ i m. place i (eq-or-lt-of-le m);
-    }
-  where
-    place : (i : ℕ) → (k ≡ i) ⊎ (k < i) → getD (set at k (getD xs k 0)) i 0 ≡ getD xs i 0
-    place i (inl same) = rw (← same) (getD-set-same at k (getD xs k 0) 0 (omega (arith, e .long)))
-    place i (inr above) = getD-set-other at k i (getD xs k 0) 0 (λ same. absurd (omega arith)) ∙ e .end i (omega arith)
+-- the digits from place k on make no larger number than all
+number-end : (k : ℕ) (bases digits : List ℕ) → Inside bases digits → numberUp (drop k bases) (drop k digits) ≤ numberUp bases digits
+unfolding numberUp Inside
+number-end zero bases digits h = le-refl _
+number-end (suc k) [] digits h = omega arith
+number-end (suc k) (b ∷ bases) [] h = absurd h
+number-end (suc k) (b ∷ bases) (c ∷ digits) h =
+    let low : 1 ≤ b = omega (arith, h .0) in
+    omega (arith, number-end k bases digits (h .1), mul-le-mul-right (numberUp bases digits) low)
 
-pub ends-all : (xs at : List ℕ) → Ends xs 0 at → at ≡ five xs
-ends-all xs at e =
-    ext-getD 0 at (five xs) (e .long ∙ sym (length-five xs))
-    (λ i l. e .end i (omega arith) ∙ sym (getD-take 5 (xs ++ replicate 5 0) i 0 (omega (arith, e .long)) ∙ before-zeros xs 5 i))
-
--- ---- numbers and digits
-
--- the number of the first k coordinates stays below the number of tiles
-pub number-small : (plan : Plan) → Shaped plan → (position : List ℕ) → InGrid plan position → (k : ℕ) → k ≤ plan .d
-    → numberFrom 0 (take k (plan .cuts)) position < 16777216
-number-small plan s position g k l =
-    omega (
-      arith,
-      number-front-below (plan .cuts) position k (omega (arith, s .cuts-long)) (λ i m. g .below i (omega arith)),
-      product-front (plan .cuts) (plan .d) (s .cuts-long) (s .cut-low) k l,
-      s .tiles-high,
-    )
-
--- dividing by one base more
-pub divide-more : (bases : List ℕ) (n k : ℕ) → k < length bases → n / product (drop (suc k) bases) / getD bases k 0 ≡ n / product (drop k bases)
-divide-more bases n k l =
-    let same : product (drop (suc k) bases) * getD bases k 0 ≡ product (drop k bases) = omega (arith, product-drop bases k l) in
-    div-div-eq-div-mul n (product (drop (suc k) bases)) (getD bases k 0) ∙ ap (λ (p : ℕ). n / p) same
+-- the coordinates from place k on make a number below the number of tiles
+pub number-small : (plan : Plan) → Shaped plan → (position : List ℕ) → InGrid plan position → (k : ℕ)
+    → numberUp (drop k (layoutOf plan .cuts)) (drop k position) < 16777216
+unfolding layoutOf
+number-small plan s position g k =
+    let cuts : List ℕ = layoutOf plan .cuts in
+    let inside : Inside cuts position
+    = inside-of-below cuts position (g .coordinates ∙ sym (cuts-length plan s))
+    (λ i l. let m : i < plan .d = omega (arith, cuts-length plan s) in rw (cut-at plan i m) (g .below i m)) in
+    omega (arith, number-end k cuts position inside, number-up-below cuts position inside, s .tiles-high)

@@ -6,7 +6,7 @@ ghost use mathlib.Core.Path.{_≡_};
 ghost use Prim.Native.Nat.{_+_, _<_, _≤_};
 ghost use lib.ListN.{getD, set};
 ghost use Rattle.multipartition.specs.Answers.{answered, refused as theRefusal};
-ghost use Rattle.multipartition.specs.MixedRadix.{numberFrom, digitsOf};
+ghost use Rattle.multipartition.specs.MixedRadix.{numberUp, digitsUp};
 ghost use Rattle.multipartition.specs.Tiles.{isInside, oneStepOn};
 ghost use Rattle.multipartition.specs.Questions.{numberAnswer, stepAnswer, positionAnswer};
 ghost use Rattle.layout.specs.Plans.{layoutOf};
@@ -70,14 +70,15 @@ impl Position {
         (n == d) & ok
     }
 
-    // The number that the coordinates make in mixed radix, from 0 on.
+    // The number that the coordinates make in mixed radix, from 0 on: from the last to the first, which runs fastest.
     fn number_from_zero(self, plan: Plan) -> u32
         requires { ⌜ (Shaped plan) × (InGrid plan (coordinates self)) ⌝ }
-        ensures { λ r. ⌜ (r ≡ numberFrom 0 (layoutOf plan .cuts) (coordinates self)) × (r < 16777216) ⌝ }
+        ensures { λ r. ⌜ (r ≡ numberUp (layoutOf plan .cuts) (coordinates self)) × (r < 16777216) ⌝ }
     {
-        let d = plan.d;
         let mut number: u32 = 0;
-        for k in 0..d {
+        let mut k = plan.d;
+        while 0 < k {
+            k = k - 1;
             number = number * plan.cuts[k] + self.at[k];
         }
         number
@@ -235,17 +236,15 @@ fn not_found(number: u32) -> Located
     }
 }
 
-// The coordinates that make a number in mixed radix, from 0 on: from the last, which runs fastest, to the first.
+// The coordinates that make a number in mixed radix, from 0 on: from the first, which runs fastest, to the last.
 fn digits(plan: Plan, n: u32) -> Position
     requires { ⌜ Shaped plan ⌝ }
-    ensures { λ r. ⌜ r ≡ positionWith (digitsOf (layoutOf plan .cuts) n) ⌝ }
+    ensures { λ r. ⌜ r ≡ positionWith (digitsUp (layoutOf plan .cuts) n) ⌝ }
 {
     let d = plan.d;
     let mut at = [0; 5];
     let mut rest = n;
-    let mut k = d;
-    while 0 < k {
-        k = k - 1;
+    for k in 0..d {
         let b = plan.cuts[k];
         at[k] = rest % b;
         rest = rest / b;

@@ -6,10 +6,10 @@ use lib.ListN.{length}
 use borrow.Author.Tests.{le-leb, lt-leb}
 use borrow.Author.Needs.{needs}
 use Rattle.multipartition.specs.Plans.{tilesOf}
-use Rattle.multipartition.specs.MixedRadix.{digitsOf}
+use Rattle.multipartition.specs.MixedRadix.{digitsUp}
 use Rattle.multipartition.specs.Tiles.{positionOf}
 use Rattle.multipartition.specs.Questions.{positionAnswer}
-use Rattle.multipartition.proofs.MixedRadix.{length-digits}
+use Rattle.multipartition.proofs.MixedRadix.{length-digits-up}
 use Rattle.layout.specs.Plans.{layoutOf}
 use Rattle.layout.proofs.Places.{cuts-length}
 use Rattle.layout.proofs.Shaped.{in-shape-of-shaped}
@@ -59,15 +59,15 @@ returns-3 c =
     let s = counted .before .before in
     let within : s .args .tile ≤ tilesOf (layoutOf (s .args .plan)) = rw (counted .tile-count .ensures) at (c .before .if2 .left) in
     let cuts = layoutOf (s .args .plan) .cuts in
-    let long : length (digitsOf cuts (s .args .tile - 1)) ≡ s .args .plan .d
-    = length-digits cuts (s .args .tile - 1) ∙ cuts-length (s .args .plan) (s .pre) in
+    let long : length (digitsUp cuts (s .args .tile - 1)) ≡ s .args .plan .d
+    = length-digits-up cuts (s .args .tile - 1) ∙ cuts-length (s .args .plan) (s .pre) in
     rw (
       in-shape-of-shaped (s .args .plan) (s .pre),
       le-leb 1 (s .args .tile) (counted .before .if1 .left),
       le-leb (s .args .tile) (tilesOf (layoutOf (s .args .plan))) within,
       c .digits .ensures,
     )
-    (locates-found (digitsOf cuts (s .args .tile - 1)) (omega (arith, s .pre .d-high)))
+    (locates-found (digitsUp cuts (s .args .tile - 1)) (omega (arith, s .pre .d-high)))
 
 pub find-spec : {M : Type 1} → statement M
 find-spec =
