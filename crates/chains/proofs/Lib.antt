@@ -1,5 +1,4 @@
-pub mod Blocks
-pub mod Filling
-pub mod Runs
-pub mod Levels
-pub mod Outcomes
+mod Walking
+mod Counting
+mod Filling
+mod Outcomes

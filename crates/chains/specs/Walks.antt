@@ -1,71 +1,68 @@
--- What the walk over the tiles carries. Places and levels are counted from 0: level k goes along dimension k + 1.
-use mathlib.Core.Path.{_≡_}
+-- What the walk over the tiles goes by: five counts, the cuts of the dimensions that are cut, in their order, and then ones; and five tables of
+-- downward neighbours. Places are counted from 0, and place 0 runs fastest.
 use mathlib.Core.Bool.{false}
+use mathlib.Core.Path.{_≡_}
+use mathlib.Core.Logic.{_≢_}
 use mathlib.Core.List.{List}
-use Prim.Native.Nat.{ℕ, zero, suc, _-_, _*_, _%_, _<_, _≤_}
-use lib.ListN.{length, getD, drop}
+use Prim.Native.Nat.{ℕ, suc, _+_, _-_, _*_, _/_, _%_, _<_, _≤_, max}
+use lib.ListN.{length, getD, take}
 use Rattle.numbers.specs.Products.{product}
-use Rattle.multipartition.specs.Neighbours.{turn}
-use Rattle.multipartition.specs.Owners.{coordinatesAt}
-use Rattle.multipartition.specs.Tiles.{positionOf}
+use Rattle.multipartition.specs.Neighbours.{nextOwner}
+use Rattle.multipartition.specs.Plans.{tilesOf}
+use Rattle.multipartition.specs.Questions.{tileOwner}
 use Rattle.layout.specs.declared.Plan.{Plan}
 use Rattle.layout.specs.Plans.{layoutOf}
-use Rattle.layout.specs.Shaped.{entryOf}
-
--- ---- coordinates in five places, of which the first d count
-
--- the coordinates of the owner of a tile
-unfoldable pub coordinatesOf : Plan → ℕ → List ℕ
-coordinatesOf plan tile = coordinatesAt (layoutOf plan .moduli) (layoutOf plan .matrix) (positionOf (layoutOf plan .cuts) tile)
-
--- five places that hold them
-pub record Holds (plan : Plan) (tile : ℕ) (c : List ℕ) : Type 0 where
-  pub five : length c ≡ 5
-  pub at : (i : ℕ) → i < plan .d → getD c i 0 ≡ getD (coordinatesOf plan tile) i 0
-
--- five places that hold coordinates below the moduli
-pub record Below (d : ℕ) (moduli c : List ℕ) : Type 0 where
-  pub five : length c ≡ 5
-  pub at : (i : ℕ) → i < d → getD c i 0 < getD moduli i 0
-
--- the entries of the first d rows and columns are below their row's modulus
-pub record Entries (d : ℕ) (moduli matrix : List ℕ) : Type 0 where
-  pub at : (i j : ℕ) → i < d → j < d → entryOf matrix i j < getD moduli i 0
-
--- coordinates r one step down along level k from coordinates c
-pub record Lowered (d : ℕ) (moduli matrix : List ℕ) (k : ℕ) (c r : List ℕ) : Type 0 where
-  pub below : Below d moduli r
-  pub at : (i : ℕ) → i < d → getD r i 0 ≡ turn false (getD moduli i 0) (getD c i 0) (entryOf matrix i k)
+use Rattle.chains.specs.Stages.{Onward}
 
 -- ---- blocks
 
--- A block of level k: the tiles whose first k coordinates are those of one of them. Its tiles are as many as the later cuts multiply to.
-abbrev pub blockSize : Plan → ℕ → ℕ
-blockSize plan level = product (drop level (layoutOf plan .cuts))
+-- A block of level k: the tiles with the same coordinates from place k on. They are consecutive, as many as the counts before multiply to.
+abbrev pub blockSize : List ℕ → ℕ → ℕ
+blockSize counts level = product (take level counts)
 
--- the number of the highest tile of a block
-abbrev pub blockTop : Plan → ℕ → ℕ → ℕ
-blockTop plan level block = suc block * blockSize plan level
+-- the highest tile of a block, among n tiles
+pub record BlockTop (counts : List ℕ) (level n top : ℕ) : Type 0 where
+  pub block : ℕ
+  pub is : top ≡ suc block * blockSize counts level
+  pub within : top ≤ n
 
--- ---- rows
+-- ---- tables
 
--- a step along the last dimension counts the last coordinate and no other
-pub record Counts (plan : Plan) : Type 0 where
-  pub others : (i : ℕ) → suc i < plan .d → entryOf (plan .matrix) i (plan .d - 1) ≡ 0
-  pub last : entryOf (plan .matrix) (plan .d - 1) (plan .d - 1) ≡ 1 % getD (plan .moduli) (plan .d - 1) 0
+-- the processor one step down from q along place k: five tables of 4,096 places, one after the other
+abbrev pub lower : List ℕ → ℕ → ℕ → ℕ
+lower downs k q = getD downs (k * 4096 + q) 0
 
--- one less modulo m: after 0 comes the highest
-abbrev pub oneLess : ℕ → ℕ → ℕ
-oneLess m zero = m - 1
-oneLess m (suc c) = c
+-- a table of two steps down along place 0
+pub record TwoSteps (p : ℕ) (downs twice : List ℕ) : Type 0 where
+  pub at : (q : ℕ) → q < p → getD twice q 0 ≡ lower downs 0 (lower downs 0 q)
 
--- a coordinate c counted down j times
-unfoldable pub countDown : ℕ → ℕ → ℕ → ℕ
-countDown m c zero = c
-countDown m c (suc j) = oneLess m (countDown m c j)
+-- counts, and tables that lead from processors to processors
+pub record Tables (p : ℕ) (counts downs : List ℕ) : Type 0 where
+  pub few : p ≤ 4096
+  pub five : length counts ≡ 5
+  pub low : (k : ℕ) → k < 5 → 1 ≤ getD counts k 0
+  pub below : (k q : ℕ) → k < 5 → q < p → lower downs k q < p
 
--- Where the walk ends: at rows if the last dimension counts, else at single tiles, which are rows of one.
-pub record Depth (plan : Plan) (depth : ℕ) : Type 0 where
-  pub high : depth ≤ plan .d
-  pub low : plan .d ≤ suc depth
-  pub counts : depth < plan .d → Counts plan
+-- Each of n tiles whose coordinate at place k is not 0 has, one step down along k, a tile of its owner's downward neighbour.
+pub record Led (n : ℕ) (counts downs : List ℕ) (own : ℕ → ℕ) : Type 0 where
+  pub down : (k tile : ℕ) → k < 5 → 1 ≤ tile → tile ≤ n → 1 ≤ (tile - 1) / blockSize counts k % getD counts k 0
+      → own (tile - blockSize counts k) ≡ lower downs k (own tile)
+
+-- the tiles above `stop` of the block of a level whose highest is `top`, a tile of processor q, are visited
+abbrev pub Walks : List ℕ → List ℕ → ℕ → ℕ → ℕ → ℕ → List ℕ → List ℕ → List ℕ → List ℕ → Type 0
+Walks counts downs level q stop top heads nexts heads' nexts' =
+    Onward (λ own. Led (length nexts) counts downs own × (own top ≡ q)) (max stop top) (max stop (top - blockSize counts level)) heads nexts heads' nexts'
+
+-- ---- of a plan
+
+-- table c becomes that of a plan's downward neighbours along place k, and the others stay
+pub record Tabled (plan : Plan) (k c : ℕ) (downs downs' : List ℕ) : Type 0 where
+  pub long : length downs' ≡ 20480
+  pub there : (q : ℕ) → q < plan .p → lower downs' c q ≡ nextOwner (layoutOf plan .moduli) (layoutOf plan .matrix) k false q
+  pub others : (j q : ℕ) → j ≢ c → q < plan .p → lower downs' j q ≡ lower downs j q
+
+-- counts and tables of a plan
+pub record Counted (plan : Plan) (counts downs : List ℕ) : Type 0 where
+  pub tables : Tables (plan .p) counts downs
+  pub whole : blockSize counts 5 ≡ tilesOf (layoutOf plan)
+  pub led : Led (tilesOf (layoutOf plan)) counts downs (tileOwner (layoutOf plan))

@@ -1,24 +1,17 @@
 // The chains of a plan's tiles, in two lent lists. The tiles are visited from the highest down, and each visit leads from one stage of the walk to
-// the next (document 02, request e). No tile takes a division: the owner's coordinates go along from tile to tile, and in a plan whose last
-// dimension counts the last coordinate, as in the planner's, whole runs of tiles belong to consecutive processors.
+// the next (document 02, request e). The first dimension runs fastest (request i), and the owner of the tile one step down along a dimension is looked
+// up in a table of downward neighbours: no tile takes a division. Dimensions that are not cut are left out.
 use layout::Plan;
-ghost use mathlib.Core.Bool.{true, false};
 ghost use mathlib.Core.Path.{_≡_};
-ghost use mathlib.Core.List.{[]};
-ghost use Prim.Native.Nat.{_+_, _-_, _*_, _<_, _≤_, min, max};
-ghost use lib.ListN.{length, getD, take, replicate};
-ghost use Rattle.numbers.specs.Products.{product};
-ghost use Rattle.multipartition.specs.MixedRadix.{numberFrom};
-ghost use Rattle.multipartition.specs.Neighbours.{turn};
-ghost use Rattle.multipartition.specs.Owners.{times};
+ghost use Prim.Native.Nat.{ℕ, _+_, _-_, _<_, _≤_, max};
+ghost use lib.ListN.{length, replicate};
 ghost use Rattle.multipartition.specs.Plans.{tilesOf};
-ghost use Rattle.multipartition.specs.Tiles.{positionOf};
 ghost use Rattle.multipartition.specs.Questions.{tileOwner, chainsAnswer, stageAnswer};
 ghost use Rattle.layout.specs.Plans.{layoutOf};
-ghost use Rattle.layout.specs.Shaped.{Factors, Shaped};
+ghost use Rattle.layout.specs.Shaped.{Shaped};
 ghost use Rattle.chains.specs.Told.{Answers};
-ghost use Rattle.chains.specs.Stages.{Visited, OwnedBy};
-ghost use Rattle.chains.specs.Walks.{Entries, Holds, Below, Lowered, blockSize, blockTop, Counts, countDown, Depth};
+ghost use Rattle.chains.specs.Stages.{Visited, Onward};
+ghost use Rattle.chains.specs.Walks.{blockSize, BlockTop, lower, Tables, TwoSteps, Walks, Tabled, Counted};
 
 pub enum Chained {
     Done,
@@ -36,268 +29,196 @@ fn clear(list: &mut [u32])
     }
 }
 
-// The number of the processor with these coordinates.
-fn number_of(d: usize, moduli: &[u32; 5], c: [u32; 5]) -> usize
-    requires { ⌜ (Factors d (now moduli)) × (product (take d (now moduli)) ≤ 4096) × (Below d (now moduli) c) ⌝ }
-    ensures { λ r. ⌜ r ≡ numberFrom 0 (take d (now (moduli .entry))) c ⌝ }
+// The larger of two numbers.
+fn larger(a: u32, b: u32) -> u32
+    ensures { λ r. ⌜ r ≡ max a b ⌝ }
 {
-    let mut number: u32 = 0;
-    for i in 0..d {
-        number = number * moduli[i] + c[i];
-    }
-    number as usize
-}
-
-// A coordinate minus an entry, modulo m.
-fn minus(m: u32, c: u32, a: u32) -> u32
-    requires { ⌜ (c < m) × (a < m) × (m ≤ 4096) ⌝ }
-    ensures { λ r. ⌜ (r ≡ turn false m c a) × (r < m) ⌝ }
-{
-    if a <= c {
-        return c - a;
-    }
-    c + m - a
-}
-
-// The owner's coordinates one step down along level k.
-fn lowered<'a>(
-    d: usize,
-    k: usize,
-    moduli: &'a [u32; 5],
-    matrix: &'a [u32; 25],
-    c: [u32; 5],
-) -> [u32; 5]
-    requires { ⌜ (Factors d (now moduli)) × (k < d) × (Entries d (now moduli) (now matrix)) × (Below d (now moduli) c) ⌝ }
-    ensures { λ r. ⌜ Lowered d (now (moduli .entry)) (now (matrix .entry)) k c r ⌝ }
-{
-    let mut next = c;
-    for i in 0..d {
-        let at = i * 5 + k;
-        next[i] = minus(moduli[i], c[i], matrix[at]);
-    }
-    next
-}
-
-// Visits a tile, the highest that is not yet visited: its next is its owner's lowest tile so far, and it becomes the lowest. Its place in the second
-// list is `at`; all other places of that list stay.
-fn visit(plan: Plan, tile: u32, at: usize, owner: usize, heads: &mut [u32], nexts: &mut [u32])
-    requires { ⌜ (Shaped plan) × (tile ≡ at + 1) × (owner ≡ tileOwner (layoutOf plan) tile) × (owner < plan .p) ⌝ }
-    requires { ⌜ Visited plan tile (now nexts) (now heads) (now nexts) ⌝ }
-    ensures { λ r. ⌜ Visited plan at (now (nexts .entry)) (now (heads .exit)) (now (nexts .exit)) ⌝ }
-{
-    nexts[at] = heads[owner];
-    heads[owner] = tile;
-}
-
-// Visits `count` tiles, the highest of them `top`, that belong to the processors q, q - 1, ..
-fn link(plan: Plan, q: usize, top: u32, count: usize, heads: &mut [u32], nexts: &mut [u32])
-    requires { ⌜ (Shaped plan) × (q < plan .p) × (count ≤ q + 1) × (count ≤ top) × (OwnedBy plan top count (λ j. q - j)) ⌝ }
-    requires { ⌜ Visited plan top (now nexts) (now heads) (now nexts) ⌝ }
-    ensures { λ r. ⌜ Visited plan (top - count) (now (nexts .entry)) (now (heads .exit)) (now (nexts .exit)) ⌝ }
-{
-    let from = q + 1 - count;
-    let below = (top as usize) - count;
-    let mut tile = top;
-    let mut i = count;
-    while 0 < i {
-        i = i - 1;
-        visit(plan, tile, below + i, from + i, heads, nexts);
-        tile = tile - 1;
-    }
-}
-
-// The smaller of two numbers.
-fn smaller(a: usize, b: usize) -> usize
-    ensures { λ r. ⌜ r ≡ min a b ⌝ }
-{
-    if a <= b {
+    if b <= a {
         return a;
     }
     b
 }
 
-// Visits `count` tiles, the highest of them `top`, whose owner's last coordinate is counted down from c, modulo m; the processors with the other
-// coordinates as they are begin at `base`.
-fn row(
-    plan: Plan,
-    base: usize,
-    m: usize,
-    c: usize,
+// A number of a table as a place.
+fn place(q: u16) -> usize
+    ensures { λ r. ⌜ r ≡ q ⌝ }
+{
+    q as usize
+}
+
+// The processor one step down from q along place k.
+fn lower(downs: &[u16; 20480], k: usize, q: usize) -> usize
+    requires { ⌜ (k < 5) × (q < 4096) ⌝ }
+    ensures { λ r. ⌜ r ≡ lower (now (downs .entry)) k q ⌝ }
+{
+    let at = k * 4096 + q;
+    place(downs[at])
+}
+
+// Visits a tile, the highest that is not yet visited: its next is its owner's lowest tile so far, and it becomes the lowest. Its place in the second
+// list is written; all other places of that list stay.
+fn visit(tile: u32, owner: usize, heads: &mut [u32], nexts: &mut [u32])
+    requires { ⌜ (1 ≤ tile) × (tile ≤ length (now nexts)) × (owner < 4096) × (owner < length (now heads)) ⌝ }
+    ensures { λ r. ⌜ Onward (λ own. own tile ≡ owner) tile (tile - 1) (now (heads .entry)) (now (nexts .entry)) (now (heads .exit)) (now (nexts .exit)) ⌝ }
+{
+    let at = (tile as usize) - 1;
+    nexts[at] = heads[owner];
+    heads[owner] = tile;
+}
+
+// Visits a line along place 0. Two owners go along, each taking two steps at once, so that a look-up need not wait for the one before.
+fn line<'a>(
+    counts: &'a [u32; 5],
+    downs: &'a [u16; 20480],
+    twice: &'a [u16; 4096],
+    q: usize,
     top: u32,
-    count: usize,
+    stop: u32,
     heads: &mut [u32],
     nexts: &mut [u32],
 )
-    requires { ⌜ (Shaped plan) × (c < m) × (base + m ≤ plan .p) × (count ≤ top) × (OwnedBy plan top count (λ j. base + countDown m c j)) ⌝ }
-    requires { ⌜ Visited plan top (now nexts) (now heads) (now nexts) ⌝ }
-    ensures { λ r. ⌜ Visited plan (top - count) (now (nexts .entry)) (now (heads .exit)) (now (nexts .exit)) ⌝ }
+    requires { ⌜ (Tables (length (now heads)) (now counts) (now downs)) × (TwoSteps (length (now heads)) (now downs) (now twice)) × (q < length (now heads)) × (BlockTop (now counts) 1 (length (now nexts)) top) ⌝ }
+    ensures { λ r. ⌜ Walks (now (counts .entry)) (now (downs .entry)) 1 q stop top (now (heads .entry)) (now (nexts .entry)) (now (heads .exit)) (now (nexts .exit)) ⌝ }
+{
+    let last = larger(stop, top - counts[0]);
+    let mut tile = top;
+    let mut here = q;
+    let mut next = lower(downs, 0, q);
+    while last < tile {
+        let after = place(twice[here]);
+        visit(tile, here, heads, nexts);
+        tile = tile - 1;
+        here = next;
+        next = after;
+    }
+}
+
+// Visits a block of level 2, line by line, and gives the tile below it.
+fn lines<'a>(
+    counts: &'a [u32; 5],
+    downs: &'a [u16; 20480],
+    twice: &'a [u16; 4096],
+    q: usize,
+    top: u32,
+    stop: u32,
+    heads: &mut [u32],
+    nexts: &mut [u32],
+) -> u32
+    requires { ⌜ (Tables (length (now heads)) (now counts) (now downs)) × (TwoSteps (length (now heads)) (now downs) (now twice)) × (q < length (now heads)) × (BlockTop (now counts) 2 (length (now nexts)) top) ⌝ }
+    ensures { λ r. ⌜ (r ≡ top - blockSize (now (counts .entry)) 2) × (Walks (now (counts .entry)) (now (downs .entry)) 2 q stop top (now (heads .entry)) (now (nexts .entry)) (now (heads .exit)) (now (nexts .exit))) ⌝ }
 {
     let mut tile = top;
-    let mut left = count;
-    let mut at = c;
+    let mut left = counts[1];
+    let mut at = q;
     while 0 < left {
-        let run = smaller(at + 1, left);
-        link(plan, base + at, tile, run, heads, nexts);
-        tile = tile - (run as u32);
-        left = left - run;
-        at = m - 1;
+        line(counts, downs, twice, at, tile, stop, heads, nexts);
+        at = lower(downs, 1, at);
+        tile = tile - counts[0];
+        left = left - 1;
     }
+    tile
 }
 
-// Visits the tiles of such a row that are above `stop`.
-fn row_above(
-    plan: Plan,
-    base: usize,
-    m: usize,
-    c: usize,
+// Visits a block, level by level down to lines, and gives the tile below it.
+fn walk<'a>(
+    counts: &'a [u32; 5],
+    downs: &'a [u16; 20480],
+    twice: &'a [u16; 4096],
+    level: usize,
+    q: usize,
     top: u32,
-    count: usize,
     stop: u32,
     heads: &mut [u32],
     nexts: &mut [u32],
-)
-    requires { ⌜ (Shaped plan) × (c < m) × (base + m ≤ plan .p) × (count ≤ top) × (OwnedBy plan top count (λ j. base + countDown m c j)) ⌝ }
-    requires { ⌜ Visited plan (max stop top) (now nexts) (now heads) (now nexts) ⌝ }
-    ensures { λ r. ⌜ Visited plan (max stop (top - count)) (now (nexts .entry)) (now (heads .exit)) (now (nexts .exit)) ⌝ }
+) -> u32
+    requires { ⌜ (2 ≤ level) × (level ≤ 5) × (Tables (length (now heads)) (now counts) (now downs)) × (TwoSteps (length (now heads)) (now downs) (now twice)) × (q < length (now heads)) × (BlockTop (now counts) level (length (now nexts)) top) ⌝ }
+    ensures { λ r. ⌜ (r ≡ top - blockSize (now (counts .entry)) level) × (Walks (now (counts .entry)) (now (downs .entry)) level q stop top (now (heads .entry)) (now (nexts .entry)) (now (heads .exit)) (now (nexts .exit))) ⌝ }
 {
-    if top <= stop {
-        return;
+    if level == 2 {
+        return lines(counts, downs, twice, q, top, stop, heads, nexts);
     }
-    let above = smaller(count, (top - stop) as usize);
-    row(plan, base, m, c, top, above, heads, nexts);
+    let k = level - 1;
+    let mut tile = top;
+    let mut left = counts[k];
+    let mut at = q;
+    while 0 < left {
+        let below = walk(counts, downs, twice, k, at, tile, stop, heads, nexts);
+        at = lower(downs, k, at);
+        tile = below;
+        left = left - 1;
+    }
+    tile
 }
 
-// Visits the tiles above `stop` of a block whose blocks of the next level are rows.
-fn rows(
-    plan: Plan,
-    level: usize,
-    length: u32,
-    block: u32,
-    c: [u32; 5],
-    stop: u32,
-    heads: &mut [u32],
-    nexts: &mut [u32],
-)
-    requires { ⌜ (Shaped plan) × (Depth plan (level + 1)) × (level < plan .d) × (length ≡ blockSize plan (level + 1)) ⌝ }
-    requires { ⌜ Holds plan (blockTop plan level block) c ⌝ }
-    requires { ⌜ Visited plan (max stop (blockTop plan level block)) (now nexts) (now heads) (now nexts) ⌝ }
-    ensures { λ r. ⌜ Visited plan (max stop (block * blockSize plan level)) (now (nexts .entry)) (now (heads .exit)) (now (nexts .exit)) ⌝ }
-{
-    let d = plan.d;
-    let last = d - 1;
-    let m = plan.moduli[last] as usize;
-    let count = length as usize;
-    let b = plan.cuts[level];
-    let mut at = c;
-    let mut i = b;
-    while 0 < i {
-        i = i - 1;
-        let coordinate = at[last] as usize;
-        let base = number_of(d, &plan.moduli, at) - coordinate;
-        let top = (block * b + i + 1) * length;
-        row_above(plan, base, m, coordinate, top, count, stop, heads, nexts);
-        let next = lowered(d, level, &plan.moduli, &plan.matrix, at);
-        at = next;
-    }
-}
-
-// Visits the tiles above `stop` of a block, level by level down to rows.
-fn walk(
-    plan: Plan,
-    depth: usize,
-    length: u32,
-    level: usize,
-    block: u32,
-    c: [u32; 5],
-    stop: u32,
-    heads: &mut [u32],
-    nexts: &mut [u32],
-)
-    requires { ⌜ (Shaped plan) × (Depth plan depth) × (level < depth) × (length ≡ blockSize plan depth) ⌝ }
-    requires { ⌜ Holds plan (blockTop plan level block) c ⌝ }
-    requires { ⌜ Visited plan (max stop (blockTop plan level block)) (now nexts) (now heads) (now nexts) ⌝ }
-    ensures { λ r. ⌜ Visited plan (max stop (block * blockSize plan level)) (now (nexts .entry)) (now (heads .exit)) (now (nexts .exit)) ⌝ }
-{
-    if level + 1 == depth {
-        rows(plan, level, length, block, c, stop, heads, nexts);
-        return;
-    }
-    let d = plan.d;
-    let b = plan.cuts[level];
-    let mut at = c;
-    let mut i = b;
-    while 0 < i {
-        i = i - 1;
-        let part = block * b + i;
-        walk(plan, depth, length, level + 1, part, at, stop, heads, nexts);
-        let next = lowered(d, level, &plan.moduli, &plan.matrix, at);
-        at = next;
-    }
-}
-
-// Row i times the position of the highest tile.
-fn top_times(plan: Plan, i: usize) -> u32
-    requires { ⌜ (Shaped plan) × (i < plan .d) ⌝ }
-    ensures { λ r. ⌜ r ≡ times (getD (layoutOf plan .matrix) i []) (positionOf (layoutOf plan .cuts) (tilesOf (layoutOf plan))) ⌝ }
-{
-    let d = plan.d;
-    let row = i * 5;
-    let mut sum: u32 = 0;
-    for j in 0..d {
-        let at = row + j;
-        sum = sum + plan.matrix[at] * (plan.cuts[j] - 1);
-    }
-    sum
-}
-
-// The coordinates of the owner of the highest tile.
-fn top_coordinates(plan: Plan) -> [u32; 5]
+// The owner of the highest tile.
+fn top_owner(plan: Plan) -> usize
     requires { ⌜ Shaped plan ⌝ }
-    ensures { λ r. ⌜ Holds plan (tilesOf (layoutOf plan)) r ⌝ }
+    ensures { λ r. ⌜ (r ≡ tileOwner (layoutOf plan) (tilesOf (layoutOf plan))) × (r < plan .p) ⌝ }
 {
     let d = plan.d;
-    let mut c = [0; 5];
-    for i in 0..d {
-        c[i] = top_times(plan, i) % plan.moduli[i];
+    let mut at = [0; 5];
+    for k in 0..d {
+        at[k] = plan.cuts[k] - 1;
     }
-    c
+    let owner = questions::owner_number(d, &plan.moduli, &plan.matrix, &at[..d]);
+    owner as usize
 }
 
-// Whether a step along the last dimension counts the last coordinate and no other.
-fn counts(plan: Plan) -> bool
-    requires { ⌜ Shaped plan ⌝ }
-    ensures { λ r. ⌜ (r ≡ true → Counts plan) ⌝ }
+// Makes table c that of the downward neighbours along place k.
+fn table(plan: Plan, k: usize, c: usize, downs: &mut [u16; 20480])
+    requires { ⌜ (Shaped plan) × (k < plan .d) × (c < 5) × (length (now downs) ≡ 20480) ⌝ }
+    ensures { λ r. ⌜ Tabled plan k c (now (downs .entry)) (now (downs .exit)) ⌝ }
 {
-    let last = plan.d - 1;
-    let mut ok = true;
-    for i in 0..last {
-        let at = i * 5 + last;
-        ok = ok & (plan.matrix[at] == 0);
+    let from = c * 4096;
+    let p = plan.p;
+    let mut q: u32 = 0;
+    while q < p {
+        let at = from + (q as usize);
+        let below = questions::neighbour_number(plan.d, &plan.moduli, &plan.matrix, k, false, q);
+        downs[at] = below as u16;
+        q = q + 1;
     }
-    let at = last * 5 + last;
-    ok & (plan.matrix[at] == 1 % plan.moduli[last])
 }
 
-// How many levels the walk goes down.
-fn depth_of(plan: Plan) -> usize
-    requires { ⌜ Shaped plan ⌝ }
-    ensures { λ r. ⌜ Depth plan r ⌝ }
+// Whether a dimension is cut, as a number.
+fn cut(b: u32) -> usize
+    ensures { λ r. ⌜ (r ≤ 1) × (r ≡ 0 → b ≡ 1) ⌝ }
 {
-    if counts(plan) {
-        return plan.d - 1;
-    }
-    plan.d
-}
-
-// How many tiles a row has.
-fn row_length(plan: Plan, depth: usize) -> u32
-    requires { ⌜ (Shaped plan) × (Depth plan depth) ⌝ }
-    ensures { λ r. ⌜ r ≡ blockSize plan depth ⌝ }
-{
-    if depth < plan.d {
-        return plan.cuts[depth];
+    if b == 1 {
+        return 0;
     }
     1
+}
+
+// The counts of a plan, with their tables.
+fn tables(plan: Plan, downs: &mut [u16; 20480]) -> [u32; 5]
+    requires { ⌜ (Shaped plan) × (now downs ≡ replicate 20480 0) ⌝ }
+    ensures { λ r. ⌜ Counted plan r (now (downs .exit)) ⌝ }
+{
+    let d = plan.d;
+    let mut counts = [1; 5];
+    let mut c = 0;
+    for k in 0..d {
+        let b = plan.cuts[k];
+        table(plan, k, c, downs);
+        counts[c] = b;
+        c = c + cut(b);
+    }
+    counts
+}
+
+// Fills the table of two steps along place 0.
+fn two_steps(p: u32, downs: &[u16; 20480], twice: &mut [u16; 4096])
+    requires { ⌜ (p ≤ 4096) × ((q : ℕ) → q < p → lower (now downs) 0 q < p) × (length (now twice) ≡ 4096) ⌝ }
+    ensures { λ r. ⌜ TwoSteps p (now (downs .entry)) (now (twice .exit)) ⌝ }
+{
+    let many = p as usize;
+    let mut q = 0;
+    while q < many {
+        let at = lower(downs, 0, q);
+        twice[q] = downs[at];
+        q = q + 1;
+    }
 }
 
 // Visits the tiles above `stop`, from the highest down.
@@ -306,15 +227,18 @@ fn visit_above(plan: Plan, stop: u32, heads: &mut [u32], nexts: &mut [u32])
     requires { ⌜ Visited plan (tilesOf (layoutOf plan)) (now nexts) (now heads) (now nexts) ⌝ }
     ensures { λ r. ⌜ Visited plan stop (now (nexts .entry)) (now (heads .exit)) (now (nexts .exit)) ⌝ }
 {
-    let depth = depth_of(plan);
-    let length = row_length(plan, depth);
+    let mut downs = [0; 20480];
+    let counts = tables(plan, &mut downs);
+    let mut twice = [0; 4096];
+    two_steps(plan.p, &downs, &mut twice);
+    let top = layout::tile_count(plan) as u32;
     walk(
-        plan,
-        depth,
-        length,
-        0,
-        0,
-        top_coordinates(plan),
+        &counts,
+        &downs,
+        &twice,
+        5,
+        top_owner(plan),
+        top,
         stop,
         heads,
         nexts,

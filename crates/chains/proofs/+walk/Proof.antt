@@ -1,58 +1,54 @@
--- `walk` meets its contract, by the number of levels that are left.
-use mathlib.Core.Path.{sym, _∙_}
+-- `walk` meets its contract, by its level.
+use mathlib.Core.Path.{_≡_, subst⁻¹}
 use Prim.Native.Nat.{ℕ, _+_, _-_, _<_, _≤_}
 use native.Mathlib.Omega.{arith}
 use borrow.Author.Needs.{needs}
-use Rattle.multipartition.proofs.Stages.{heads-length, nexts-length}
-use Rattle.chains.proofs.Blocks.{moduli-factors, entries}
-use Rattle.chains.proofs.Levels.{BlockStage, block-start, block-end, inner-ready, inner-small, block-step}
-use Rattle.chains.proofs.+walk.{statement}
+use borrow.Fn.Kinds.{In}
+use borrow.Fn.PlainCycle.{Measures, is, falls, and}
+use Rattle.chains.specs.Walks.{TwoSteps, BlockTop}
+use Rattle.chains.proofs.Walking.{Across, across-start, across-ready, across-step, across-done}
 use Rattle.chains.proofs.walk.Reads as walk
 use Rattle.chains.proofs.walk.Kinds as walk-kinds
 use Rattle.chains.proofs.+walk.Lts-walk as walk-lts
-use Rattle.chains.proofs.lowered.Reads as lowered-reads
-use Rattle.chains.proofs.rows.Reads as rows-reads
+use Rattle.chains.proofs.lines.Reads as lines-reads
+use Rattle.chains.proofs.lower.Reads as lower-reads
+use Rattle.chains.proofs.+walk.{statement}
 use Rattle.chains.proofs.+walk.Tie.{close}
-use borrow.Fn.Kinds.{In}
-use borrow.Fn.PlainCycle.{Measures, is, falls, and}
 
-abbrev μ-walk : Measures 2 walk-kinds.ps ℕ
-μ-walk κs a = a .1 .0 - a .1 .1 .1 .0
+abbrev μ-walk : Measures 3 walk-kinds.ps ℕ
+μ-walk κs a = a .1 .1 .1 .0
 
 -- what is given at the measure t, and what a call asks below t
-abbrev walk-at : ℕ → In 2 walk-kinds.ps
-walk-at t = and 2 walk-kinds.ps (is 2 walk-kinds.ps μ-walk t) walk.Pre
+abbrev walk-at : ℕ → In 3 walk-kinds.ps
+walk-at t = and 3 walk-kinds.ps (is 3 walk-kinds.ps μ-walk t) walk.Pre
 
-abbrev walk-below : ℕ → In 2 walk-kinds.ps
-walk-below t = and 2 walk-kinds.ps (falls 2 walk-kinds.ps _<_ μ-walk t) walk.Pre
+abbrev walk-below : ℕ → In 3 walk-kinds.ps
+walk-below t = and 3 walk-kinds.ps (falls 3 walk-kinds.ps _<_ μ-walk t) walk.Pre
 
 -- the contracts of the functions called
 abbrev calls : ℕ → walk-lts.Claims
 calls t = (
-  rows-reads.Asked,
-  rows-reads.Learnt,
+  lines-reads.Asked,
+  lines-reads.Learnt,
   walk-below t,
   walk.Post,
-  lowered-reads.Asked,
-  lowered-reads.Learnt,
+  lower-reads.Asked,
+  lower-reads.Learnt,
 )
 
 abbrev Inv-loop : walk-lts.InvT-loop
-Inv-loop depth length level block stop heads₀ nexts₀ plan d b at₀ i₀ heads nexts at i = BlockStage plan stop level block i at nexts₀ heads nexts
+Inv-loop counts downs twice level q top stop heads₀ nexts₀ k tile₀ left₀ at₀ heads nexts tile left at =
+    Across counts downs k q stop top tile left at heads₀ nexts₀ heads nexts
 
 abbrev μ-loop : walk-lts.MeasureT-loop
-μ-loop depth length level block stop heads₀ nexts₀ plan d b at₀ i₀ heads nexts at i = i
+μ-loop counts downs twice level q top stop heads₀ nexts₀ k tile₀ left₀ at₀ heads nexts tile left at = left
 
 module _ (t : ℕ) where
-  add-if1 : walk-lts.Need-add-if1 (calls t) (walk-at t) walk.Post Inv-loop μ-loop
-  add-if1 c = let s = c .before .before in omega (arith, s .pre .1 .0 .2, s .pre .1 .0 .1 .high, s .pre .1 .0 .0 .d-high)
-
-  rows-requires : walk-lts.Need-rows-requires (calls t) (walk-at t) walk.Post Inv-loop μ-loop
-  rows-requires c κs =
+  lines-requires : walk-lts.Need-lines-requires (calls t) (walk-at t) walk.Post Inv-loop μ-loop
+  lines-requires c κs =
       let s = c .before .before .before .before .before in
-      let level : s .args .level < s .args .t1 .d = omega (arith, s .pre .1 .0 .2, s .pre .1 .0 .1 .high) in
-      let e = c .before .before .if1 .taken in
-      ((s .pre .1 .0 .0, rw e (s .pre .1 .0 .1), level, rw e (s .pre .1 .0 .3)), (s .pre .1 .1 .0, s .pre .1 .1 .1))
+      let p = s .pre .1 in
+      (p .2, p .3, p .4, rw (c .before .before .if1 .taken) at (p .5))
 
   same-length : walk-lts.Need-same-length (calls t) (walk-at t) walk.Post Inv-loop μ-loop
   same-length c = search needs
@@ -61,98 +57,87 @@ module _ (t : ℕ) where
   same-length-2 c = search needs
 
   returns : walk-lts.Need-returns (calls t) (walk-at t) walk.Post Inv-loop μ-loop
-  returns c = c .before .before .before .before .rows .ensures
+  returns c =
+      let e = c .before .before .before .before .before .before .before .if1 .taken in
+      rw e (c .before .before .before .before .lines .ensures)
 
-  mul-b : walk-lts.Need-mul-b (calls t) (walk-at t) walk.Post Inv-loop μ-loop
-  mul-b c = let s = c .before .before .before in omega (arith, s .pre .1 .0 .2, s .pre .1 .0 .1 .high, s .pre .1 .0 .0 .d-high)
+  sub-k : walk-lts.Need-sub-k (calls t) (walk-at t) walk.Post Inv-loop μ-loop
+  sub-k c = omega (arith, c .before .before .before .pre .1 .0)
 
-  element-copy-out-b : walk-lts.Need-element-copy-out-b (calls t) (walk-at t) walk.Post Inv-loop μ-loop
-  element-copy-out-b c = let s = c .before .before .before in omega (arith, s .pre .1 .0 .2, s .pre .1 .0 .1 .high, s .pre .1 .0 .0 .d-high)
+  mul-left : walk-lts.Need-mul-left (calls t) (walk-at t) walk.Post Inv-loop μ-loop
+  mul-left c = let p = c .before .before .before .pre .1 in omega (arith, p .0, p .1)
+
+  element-copy-out-left : walk-lts.Need-element-copy-out-left (calls t) (walk-at t) walk.Post Inv-loop μ-loop
+  element-copy-out-left c = let p = c .before .before .before .pre .1 in omega (arith, p .0, p .1)
 
   loop-holds : walk-lts.Need-loop-holds (calls t) (walk-at t) walk.Post Inv-loop μ-loop
   loop-holds c =
       let s = c .before .before .before .before in
-      let level : s .args .level < s .args .t1 .d = omega (arith, s .pre .1 .0 .2, s .pre .1 .0 .1 .high) in
-      block-start (s .args .t1) (s .pre .1 .0 .0) (s .args .stop) (s .args .level) level (s .args .block) (s .args .c) (s .args .heads .now) (s .args .nexts .now) (s .pre .1 .1 .0) (s .pre .1 .1 .1)
-
-  sub-i : walk-lts.Need-sub-i (calls t) (walk-at t) walk.Post Inv-loop μ-loop
-  sub-i c = search needs
-
-  mul-part : walk-lts.Need-mul-part (calls t) (walk-at t) walk.Post Inv-loop μ-loop
-  mul-part c =
-      let s = c .before .before .before .before .before .before in
-      let l = c .before .loop in
-      let level : s .args .level < s .args .t1 .d = omega (arith, s .pre .1 .0 .2, s .pre .1 .0 .1 .high) in
-      omega (arith, inner-small (s .args .t1) (s .pre .1 .0 .0) (s .args .stop) (s .args .level) level (s .args .block) (l .i) (l .at) (s .args .nexts .now) (l .heads) (l .nexts) (l .inv) (omega arith))
-
-  add-part : walk-lts.Need-add-part (calls t) (walk-at t) walk.Post Inv-loop μ-loop
-  add-part c =
-      let s = c .before .before .before .before .before .before in
-      let l = c .before .loop in
-      let level : s .args .level < s .args .t1 .d = omega (arith, s .pre .1 .0 .2, s .pre .1 .0 .1 .high) in
-      omega (arith, inner-small (s .args .t1) (s .pre .1 .0 .0) (s .args .stop) (s .args .level) level (s .args .block) (l .i) (l .at) (s .args .nexts .now) (l .heads) (l .nexts) (l .inv) (omega arith))
-
-  add-walk : walk-lts.Need-add-walk (calls t) (walk-at t) walk.Post Inv-loop μ-loop
-  add-walk c = let s = c .before .before .before .before .before .before in omega (arith, s .pre .1 .0 .2, s .pre .1 .0 .1 .high, s .pre .1 .0 .0 .d-high)
+      let p = s .pre .1 in
+      across-start (s .args .counts .now) (s .args .downs .now) (s .args .level - 1) (omega (arith, p .0, p .1)) (s .args .q) (s .args .stop) (s .args .top) (s .args .heads .now) (s .args .nexts .now) (p .2) (let e : s .args .level ≡ s .args .level - 1 + 1 = omega (arith, p .0) in rw e at (p .5)) (p .4)
 
   walk-requires : walk-lts.Need-walk-requires (calls t) (walk-at t) walk.Post Inv-loop μ-loop
   walk-requires c κs =
       let s = c .before .before .before .before .before .before .before .before in
       let l = c .before .before .before .loop in
-      let level : s .args .level < s .args .t1 .d = omega (arith, s .pre .1 .0 .2, s .pre .1 .0 .1 .high) in
-      let low : 1 ≤ l .i = c .before .before .loop-test .taken in
-      let ready = inner-ready (s .args .t1) (s .pre .1 .0 .0) (s .args .stop) (s .args .level) level (s .args .block) (l .i) (l .at) (s .args .nexts .now) (l .heads) (l .nexts) (l .inv) low in
-      let deeper : s .args .level + 1 < s .args .depth = omega (arith, s .pre .1 .0 .2, c .before .before .before .before .before .if1 .left) in (
-        omega (arith, s .pre .0, deeper),
-        ((s .pre .1 .0 .0, s .pre .1 .0 .1, deeper, s .pre .1 .0 .3), (ready .1, ready .2)),
+      let p = s .pre .1 in
+      let ready = across-ready (s .args .counts .now) (s .args .downs .now) (s .args .level - 1) (omega (arith, p .0, p .1)) (s .args .q) (s .args .stop) (s .args .top) (s .args .heads .now) (s .args .nexts .now) (p .2) (l .tile) (l .left) (l .at) (l .heads) (l .nexts) (l .inv) (c .before .before .loop-test .taken) in (
+        omega (arith, s .pre .0, p .0),
+        (
+          omega (arith, p .0, c .before .before .before .before .before .if1 .left),
+          omega (arith, p .1),
+          ready .0,
+          subst⁻¹ (λ (n : ℕ). TwoSteps n (s .args .downs .now) (s .args .twice .now)) (l .inv .heads-kept) (p .3),
+          ready .1,
+          ready .2,
+        ),
       )
 
-  lowered-requires : walk-lts.Need-lowered-requires (calls t) (walk-at t) walk.Post Inv-loop μ-loop
-  lowered-requires c κs =
-      let s = c .before .before .before .before .before .before .before .before .before .before .before .before .before .before .before .before in
-      let l = c .before .before .before .before .before .before .before .before .before .before .before .loop in
-      let level : s .args .level < s .args .t1 .d = omega (arith, s .pre .1 .0 .2, s .pre .1 .0 .1 .high) in
-      (moduli-factors (s .args .t1) (s .pre .1 .0 .0), level, entries (s .args .t1) (s .pre .1 .0 .0), l .inv .below)
+  lower-requires : walk-lts.Need-lower-requires (calls t) (walk-at t) walk.Post Inv-loop μ-loop
+  lower-requires c κs =
+      let p = c .before .before .before .before .before .before .before .before .before .before .before .before .before .pre .1 in
+      (omega (arith, p .0, p .1), omega (arith, c .before .before .before .before .before .before .before .before .loop .inv .at-below, p .2 .few))
+
+  sub-left : walk-lts.Need-sub-left (calls t) (walk-at t) walk.Post Inv-loop μ-loop
+  sub-left c = search needs
 
   loop-less : walk-lts.Need-loop-less (calls t) (walk-at t) walk.Post Inv-loop μ-loop
   loop-less c = search needs
 
   loop-again : walk-lts.Need-loop-again (calls t) (walk-at t) walk.Post Inv-loop μ-loop
   loop-again c =
-      let s = c .before .before .before .before .before .before .before .before .before .before .before .before .before .before .before .before .before in
-      let l = c .before .before .before .before .before .before .before .before .before .before .before .before .loop in
-      let level : s .args .level < s .args .t1 .d = omega (arith, s .pre .1 .0 .2, s .pre .1 .0 .1 .high) in
-      block-step (s .args .t1) (s .pre .1 .0 .0) (s .args .stop) (s .args .level) level (s .args .block) (l .i) (l .at) (s .args .nexts .now) (l .heads) (l .nexts) (l .inv) (c .before .before .before .before .before .before .before .before .before .before .before .loop-test .taken) (c .lowered .result) _ _ (c .before .before .before .before .before .before .before .before .walk .ensures) (c .lowered .ensures)
+      let s = c .before .before .before .before .before .before .before .before .before .before .before .before .before .before in
+      let l = c .before .before .before .before .before .before .before .before .before .loop in
+      let p = s .pre .1 in
+      across-step (s .args .counts .now) (s .args .downs .now) (s .args .level - 1) (omega (arith, p .0, p .1)) (s .args .q) (s .args .stop) (s .args .top) (s .args .heads .now) (s .args .nexts .now) (p .2) (l .tile) (l .left) (l .at) (l .heads) (l .nexts) (l .inv) _ _ _ _ (c .before .before .before .before .before .before .before .before .loop-test .taken) (c .before .before .before .before .before .walk .ensures .0) (c .lower .ensures) (c .before .before .before .before .before .walk .ensures .1)
 
   same-length-3 : walk-lts.Need-same-length-3 (calls t) (walk-at t) walk.Post Inv-loop μ-loop
-  same-length-3 c = let s = c .before .before .before .before .before .before in heads-length (c .before .loop .inv .visited) ∙ sym (heads-length (s .pre .1 .1 .1))
+  same-length-3 c = c .before .loop .inv .heads-kept
 
   same-length-4 : walk-lts.Need-same-length-4 (calls t) (walk-at t) walk.Post Inv-loop μ-loop
-  same-length-4 c = let s = c .before .before .before .before .before .before in nexts-length (c .before .loop .inv .visited) ∙ sym (nexts-length (s .pre .1 .1 .1))
+  same-length-4 c = c .before .loop .inv .nexts-kept
 
   returns-2 : walk-lts.Need-returns-2 (calls t) (walk-at t) walk.Post Inv-loop μ-loop
   returns-2 c =
       let s = c .before .before .before .before .before .before in
       let l = c .before .loop in
-      let level : s .args .level < s .args .t1 .d = omega (arith, s .pre .1 .0 .2, s .pre .1 .0 .1 .high) in
-      block-end (s .args .t1) (s .pre .1 .0 .0) (s .args .stop) (s .args .level) level (s .args .block) (l .i) (l .at) (s .args .nexts .now) (l .heads) (l .nexts) (l .inv) (omega arith)
+      let p = s .pre .1 in
+      let e : s .args .level - 1 + 1 ≡ s .args .level = omega (arith, p .0) in
+      rw e at (across-done (s .args .counts .now) (s .args .downs .now) (s .args .level - 1) (omega (arith, p .0, p .1)) (s .args .q) (s .args .stop) (s .args .top) (s .args .heads .now) (s .args .nexts .now) (p .2) (l .tile) (l .left) (l .at) (l .heads) (l .nexts) (l .inv) (omega arith))
 
 pub +walk-spec : {M : Type 1} → statement M
 +walk-spec = close μ-walk λ t. walk-lts.spec (calls t) (walk-at t) walk.Post Inv-loop μ-loop
-    (add-if1 t)
-    (rows-requires t)
+    (lines-requires t)
     (same-length t)
     (same-length-2 t)
     (returns t)
-    (mul-b t)
-    (element-copy-out-b t)
+    (sub-k t)
+    (mul-left t)
+    (element-copy-out-left t)
     (loop-holds t)
-    (sub-i t)
-    (mul-part t)
-    (add-part t)
-    (add-walk t)
     (walk-requires t)
-    (lowered-requires t)
+    (lower-requires t)
+    (sub-left t)
     (loop-less t)
     (loop-again t)
     (same-length-3 t)
