@@ -1,234 +1,524 @@
 //! Chains without a division for each tile.
 //!
-//! Both ways walk the tiles downward: a tile's next is what its owner's head was, and the tile becomes the
-//! head. [`Runs`] uses that in the planner's plans the owners along the last dimension are consecutive
-//! numbers: a row of tiles is a few runs of heads, each copied and then counted out. [`Single`], for other
-//! plans, finds the owner of the tile one down from a list of downward neighbours.
+//! Tiles are visited from the highest down: a tile's next is what its owner's head was, and the tile becomes the
+//! head. Owners come from the plan as lines within lines: along a line every tile's owner is one and the same step
+//! from the owner before it.
+//!
+//! [`chains`] visits every tile so, in the quickest of four ways that the plan allows:
+//!
+//! - runs: the owners along the fastest line count down or up, so that runs of heads are copied and renumbered;
+//! - stays: the fastest line has one owner, whose head is kept at hand;
+//! - fours: the owners of four neighbouring tiles are kept, and each is replaced by its neighbour in a table, so that
+//!   no look-up waits for the one before; four along a line, or two by two where the fastest line has two tiles;
+//! - singles: one owner is kept.
+//!
+//! [`chains_by_slabs`] leaves the same lists in the end, but visits the two highest slabs only. In the others a tile's
+//! next is one slab below the next of the tile one slab above, and heads are moved once.
 
 use crate::plan_list::{
     checked, tiles, PlanList, CUTS, DIMENSIONS, MATRIX, MODULI, PROCESSORS, ROW_LENGTH,
 };
 use crate::subject::Told;
 
-/// A run of heads at a time where the plan allows it, else one tile at a time.
+/// Tile by tile, the quickest way.
 pub fn chains(plan: &[u32], heads: &mut [u32], nexts: &mut [u32]) -> Told {
+    let grid = Grid::new(checked_lists(plan, heads, nexts)?);
+    heads.fill(0);
+    grid.visit(0, heads, nexts);
+    Ok(())
+}
+
+/// The two highest slabs of the slowest dimension that is cut; the others from the slab above.
+pub fn chains_by_slabs(plan: &[u32], heads: &mut [u32], nexts: &mut [u32]) -> Told {
+    let mut grid = Grid::new(checked_lists(plan, heads, nexts)?);
+    heads.fill(0);
+    let slabs = grid.lines.last().map_or(1, |line| line.length);
+    if slabs > 2 {
+        let slab = nexts.len() / slabs;
+        let below = nexts.len() - 2 * slab;
+        grid.lines.last_mut().unwrap().length = 2;
+        grid.visit(below, heads, &mut nexts[below..]);
+        // Does every processor have a tile in the lower one, and so in every slab?
+        let inside = below as u32 + 1..=(below + slab) as u32;
+        if heads.iter().all(|head| inside.contains(head)) {
+            copy_down(slab, below, nexts);
+            grid.move_heads(slabs - 2, below, heads);
+            return Ok(());
+        }
+        grid.lines.last_mut().unwrap().length = slabs;
+        heads.fill(0);
+    }
+    grid.visit(0, heads, nexts);
+    Ok(())
+}
+
+fn checked_lists<'a>(plan: &'a [u32], heads: &[u32], nexts: &[u32]) -> Result<&'a PlanList, u32> {
     let plan = checked(plan)?;
     if heads.len() != plan[PROCESSORS] as usize || nexts.len() != tiles(plan) as usize {
         return Err(9);
     }
-    heads.fill(0);
-    if consecutive(plan) {
-        walk(plan, nexts.len(), &mut Runs { plan, heads, nexts });
-    } else {
-        walk(plan, nexts.len(), &mut Single::new(plan, heads, nexts));
-    }
-    Ok(())
+    Ok(plan)
 }
 
-/// Does one step along the last dimension add one to the last coordinate and to no other?
-fn consecutive(plan: &PlanList) -> bool {
-    let last = plan[DIMENSIONS] as usize - 1;
-    let column = |i: usize| plan[MATRIX + ROW_LENGTH * i + last];
-    (0..last).all(|i| column(i) == 0) && column(last) == 1 % plan[MODULI + last]
-}
-
-/// What is done with a row of tiles along the last dimension.
-trait Rows {
-    /// The row whose tiles come after `before` others; its last tile has these coordinates.
-    fn row(&mut self, before: usize, coordinates: &[u32; 5]);
-}
-
-/// Goes through the rows downward, keeping the coordinates of each row's last tile.
-fn walk(plan: &PlanList, tiles: usize, rows: &mut impl Rows) {
-    let d = plan[DIMENSIONS] as usize;
-    let length = plan[CUTS + d - 1] as usize;
-    let mut position = [0; 5];
-    for k in 0..d {
-        position[k] = plan[CUTS + k] - 1;
-    }
-    let mut coordinates = coordinates_at(plan, &position);
-    let mut before = tiles;
-    while before > 0 {
-        before -= length;
-        rows.row(before, &coordinates);
-        // One row down; a division for each row does no harm.
-        let mut k = d - 1;
-        while k > 0 {
-            k -= 1;
-            if position[k] > 0 {
-                position[k] -= 1;
-                break;
-            }
-            position[k] = plan[CUTS + k] - 1;
+/// The nexts of each slab below the place `end`, from those of the slab above it.
+fn copy_down(slab: usize, end: usize, nexts: &mut [u32]) {
+    let mut end = end;
+    while end > 0 {
+        let (below, above) = nexts.split_at_mut(end);
+        end -= slab;
+        for (next, above) in below[end..].iter_mut().zip(&above[..slab]).rev() {
+            *next = above - slab as u32;
         }
-        coordinates = coordinates_at(plan, &position);
     }
 }
 
-fn coordinates_at(plan: &PlanList, position: &[u32; 5]) -> [u32; 5] {
-    let mut coordinates = [0; 5];
-    let d = plan[DIMENSIONS] as usize;
-    for i in 0..d {
-        let row = &plan[MATRIX + ROW_LENGTH * i..][..ROW_LENGTH];
-        let mut sum = 0;
-        for k in 0..d {
-            sum += row[k] * position[k];
-        }
-        coordinates[i] = sum % plan[MODULI + i];
-    }
-    coordinates
+/// What a step up adds to each coordinate of the owner.
+type Step = [u32; 5];
+
+struct Line {
+    length: usize,
+    step: Step,
 }
 
-fn number_of(plan: &PlanList, coordinates: &[u32; 5]) -> u32 {
-    let d = plan[DIMENSIONS] as usize;
-    let mut number = 0;
-    for i in 0..d {
-        number = number * plan[MODULI + i] + coordinates[i];
-    }
-    number
+/// A plan's tiles as lines within lines, the fastest first.
+struct Grid<'a> {
+    moduli: &'a [u32],
+    /// Uncut dimensions have no line; a dimension whose steps carry on those along the line before it lengthens that.
+    lines: Vec<Line>,
+    /// Who owns the highest tile.
+    owner: u16,
 }
 
-struct Single<'a> {
-    plan: &'a PlanList,
-    /// Each processor's downward neighbour along the last dimension.
+/// A line above the one that is being visited, with each processor's downward neighbour along it.
+struct Outer {
+    length: usize,
     down: Vec<u16>,
-    heads: &'a mut [u32],
-    nexts: &'a mut [u32],
 }
 
-impl<'a> Single<'a> {
-    fn new(plan: &'a PlanList, heads: &'a mut [u32], nexts: &'a mut [u32]) -> Single<'a> {
-        let last = plan[DIMENSIONS] as usize - 1;
-        let down = (0..plan[PROCESSORS])
-            .map(|q| {
-                let mut left = q;
-                let mut coordinates = [0; 5];
-                for i in (0..=last).rev() {
-                    let modulus = plan[MODULI + i];
-                    let step = modulus - plan[MATRIX + ROW_LENGTH * i + last];
-                    coordinates[i] = (left % modulus + step) % modulus;
-                    left /= modulus;
+impl Outer {
+    const NONE: Outer = Outer {
+        length: 1,
+        down: Vec::new(),
+    };
+}
+
+impl<'a> Grid<'a> {
+    fn new(plan: &'a PlanList) -> Grid<'a> {
+        let d = plan[DIMENSIONS] as usize;
+        let moduli = &plan[MODULI..][..d];
+        let mut lines: Vec<Line> = Vec::with_capacity(d);
+        let mut highest = [0; 5];
+        for k in 0..d {
+            let length = plan[CUTS + k] as usize;
+            let mut step = [0; 5];
+            for i in 0..d {
+                step[i] = plan[MATRIX + ROW_LENGTH * i + k];
+                highest[i] += step[i] * (length as u32 - 1);
+            }
+            match lines.last_mut() {
+                _ if length == 1 => (),
+                Some(line) if times(moduli, &line.step, line.length) == step => {
+                    line.length *= length;
                 }
-                number_of(plan, &coordinates) as u16
-            })
-            .collect();
-        Single {
-            plan,
-            down,
-            heads,
-            nexts,
-        }
-    }
-}
-
-impl Rows for Single<'_> {
-    #[inline]
-    fn row(&mut self, before: usize, coordinates: &[u32; 5]) {
-        let length = self.plan[CUTS + self.plan[DIMENSIONS] as usize - 1] as usize;
-        let mut q = number_of(self.plan, coordinates) as usize;
-        let mut tile = (before + length) as u32;
-        for next in self.nexts[before..before + length].iter_mut().rev() {
-            let head = &mut self.heads[q];
-            *next = *head;
-            *head = tile;
-            q = usize::from(self.down[q]);
-            tile -= 1;
-        }
-    }
-}
-
-struct Runs<'a> {
-    plan: &'a PlanList,
-    heads: &'a mut [u32],
-    nexts: &'a mut [u32],
-}
-
-impl Rows for Runs<'_> {
-    #[inline]
-    fn row(&mut self, before: usize, coordinates: &[u32; 5]) {
-        let last = self.plan[DIMENSIONS] as usize - 1;
-        let length = self.plan[CUTS + last] as usize;
-        let modulus = self.plan[MODULI + last] as usize;
-        let top = number_of(self.plan, coordinates) as usize;
-        let base = top - coordinates[last] as usize;
-        // The run that ends with the row's last tile goes down to coordinate 0; those below it are
-        // whole, but perhaps the first of the row.
-        let mut run = (coordinates[last] as usize + 1).min(length);
-        let mut from = top + 1 - run;
-        let mut end = before + length;
-        loop {
-            let heads = &mut self.heads[from..from + run];
-            let start = end - run;
-            self.nexts[start..end].copy_from_slice(heads);
-            for (head, tile) in heads.iter_mut().zip(start as u32 + 1..) {
-                *head = tile;
+                _ => lines.push(Line { length, step }),
             }
-            end = start;
-            if end == before {
-                return;
-            }
-            run = modulus.min(end - before);
-            from = base + modulus - run;
+        }
+        let owner = moduli
+            .iter()
+            .zip(highest)
+            .fold(0, |q, (m, c)| q * m + c % m);
+        Grid {
+            moduli,
+            lines,
+            owner: owner as u16,
         }
     }
+
+    /// Visits the tiles that have these nexts; there are `before` tiles below them.
+    fn visit(&self, before: usize, heads: &mut [u32], nexts: &mut [u32]) {
+        if let Some(up) = self.counts() {
+            self.runs(up, before, heads, nexts);
+        } else if self.stays_put() {
+            self.stays(before, heads, nexts);
+        } else if let Some(fours) = self.in_fours() {
+            self.fours(&fours, before, heads, nexts);
+        } else {
+            self.singles(before, heads, nexts);
+        }
+    }
+
+    /// Each processor's downward neighbour by a step.
+    fn down(&self, step: &Step) -> Vec<u16> {
+        let processors = self.moduli.iter().product::<u32>();
+        let mut table = Vec::with_capacity(processors as usize);
+        table.push(0);
+        // The table for the first coordinates, then for one more.
+        let mut fewer = Vec::with_capacity(table.capacity());
+        for (&modulus, &step) in self.moduli.iter().zip(step) {
+            if modulus > 1 {
+                std::mem::swap(&mut table, &mut fewer);
+                table.clear();
+                for &q in &fewer {
+                    let zero = q * modulus as u16;
+                    let wrapped = zero + (modulus - step) as u16;
+                    table.extend(wrapped..zero + modulus as u16);
+                    table.extend(zero..wrapped);
+                }
+            }
+        }
+        table
+    }
+
+    /// The lines from one on, with their tables.
+    fn outer(&self, from: usize) -> Vec<Outer> {
+        let outer = |line: &Line| Outer {
+            length: line.length,
+            down: self.down(&line.step),
+        };
+        self.lines[from.min(self.lines.len())..]
+            .iter()
+            .map(outer)
+            .collect()
+    }
+
+    /// Goes through pieces of the tiles from the highest down: `visit` gets the owner of a piece's highest tile, that
+    /// tile, and the piece's nexts.
+    fn pieces(
+        &self,
+        length: usize,
+        outer: &[Outer],
+        before: usize,
+        nexts: &mut [u32],
+        mut visit: impl FnMut(u16, u32, &mut [u32]),
+    ) {
+        let (first, outer) = match outer {
+            [first, outer @ ..] => (first, outer),
+            [] => (&Outer::NONE, outer),
+        };
+        let mut left = [0; 4];
+        for (left, line) in left.iter_mut().zip(outer) {
+            *left = line.length;
+        }
+        // For each line past the first the owner of the highest tile at the present place along it.
+        let mut owners = [self.owner; 4];
+        let mut tile = before + nexts.len();
+        for pieces in nexts.rchunks_exact_mut(first.length * length) {
+            let mut owner = owners[0];
+            for piece in pieces.rchunks_exact_mut(length) {
+                visit(owner, tile as u32, piece);
+                tile -= length;
+                owner = first.down.get(usize::from(owner)).map_or(0, |&q| q);
+            }
+            for (k, line) in outer.iter().enumerate() {
+                left[k] -= 1;
+                if left[k] > 0 {
+                    let owner = line.down[usize::from(owners[k])];
+                    owners[..=k].fill(owner);
+                    break;
+                }
+                left[k] = line.length;
+            }
+        }
+    }
+
+    fn singles(&self, before: usize, heads: &mut [u32], nexts: &mut [u32]) {
+        let (length, down) = match self.lines.first() {
+            Some(line) => (line.length, self.down(&line.step)),
+            None => (1, vec![0; heads.len()]),
+        };
+        let outer = self.outer(1);
+        self.pieces(length, &outer, before, nexts, |owner, tile, piece| {
+            let mut q = usize::from(owner);
+            let mut tile = tile;
+            for next in piece.iter_mut().rev() {
+                *next = heads[q];
+                heads[q] = tile;
+                q = usize::from(down[q]);
+                tile -= 1;
+            }
+        });
+    }
+}
+
+/// How the tiles are visited in fours.
+struct Fours {
+    /// From the highest tile of four to the three others.
+    others: [Step; 3],
+    /// From four to the next four.
+    step: Step,
+    /// The tiles that are visited so without a break, and how many lines they fill.
+    length: usize,
+    lines: usize,
+}
+
+impl Grid<'_> {
+    fn in_fours(&self) -> Option<Fours> {
+        let plus = |a: &Step, b: &Step| sum(self.moduli, a, b);
+        let fours = match &self.lines[..] {
+            [a, ..] if a.length % 4 == 0 => {
+                let two = plus(&a.step, &a.step);
+                Fours {
+                    others: [a.step, two, plus(&two, &a.step)],
+                    step: plus(&two, &two),
+                    length: a.length,
+                    lines: 1,
+                }
+            }
+            [a, b, rest @ ..] if a.length == 2 && b.length % 2 == 0 => {
+                let (step, length, lines) = match rest {
+                    [c, ..] if b.length == 2 => (c.step, 4 * c.length, 3),
+                    _ => (plus(&b.step, &b.step), 2 * b.length, 2),
+                };
+                Fours {
+                    others: [a.step, b.step, plus(&a.step, &b.step)],
+                    step,
+                    length,
+                    lines,
+                }
+            }
+            _ => return None,
+        };
+        Some(fours)
+    }
+
+    fn fours(&self, fours: &Fours, before: usize, heads: &mut [u32], nexts: &mut [u32]) {
+        let others = [0, 1, 2].map(|i| self.down(&fours.others[i]));
+        let down = self.down(&fours.step);
+        let outer = self.outer(fours.lines);
+        self.pieces(fours.length, &outer, before, nexts, |owner, tile, piece| {
+            let mut a = usize::from(owner);
+            let [mut b, mut c, mut d] = [0, 1, 2].map(|i: usize| usize::from(others[i][a]));
+            let mut tile = tile;
+            for four in piece.rchunks_exact_mut(4) {
+                four[3] = heads[a];
+                heads[a] = tile;
+                a = usize::from(down[a]);
+                four[2] = heads[b];
+                heads[b] = tile - 1;
+                b = usize::from(down[b]);
+                four[1] = heads[c];
+                heads[c] = tile - 2;
+                c = usize::from(down[c]);
+                four[0] = heads[d];
+                heads[d] = tile - 3;
+                d = usize::from(down[d]);
+                tile -= 4;
+            }
+        });
+    }
+
+    /// Does a step up along the fastest line add one to the owner's number (true), or take one (false), but where the
+    /// last coordinate wraps? Not asked of lines so short that runs do not pay.
+    fn counts(&self) -> Option<bool> {
+        let line = self.lines.first().filter(|line| line.length >= SHORTEST)?;
+        let last = self.moduli.iter().rposition(|&modulus| modulus > 1)?;
+        let modulus = self.moduli[last];
+        let alone = line.step[..last].iter().all(|&c| c == 0);
+        match line.step[last] {
+            _ if !alone || (modulus as usize) < SHORTEST => None,
+            1 => Some(true),
+            c if c == modulus - 1 => Some(false),
+            _ => None,
+        }
+    }
+
+    /// Has the fastest line one owner, and is it long enough for that to pay?
+    fn stays_put(&self) -> bool {
+        let line = self.lines.first();
+        line.is_some_and(|line| line.length > 4 && line.step == [0; 5])
+    }
+
+    fn stays(&self, before: usize, heads: &mut [u32], nexts: &mut [u32]) {
+        let length = self.lines[0].length;
+        let outer = self.outer(1);
+        self.pieces(length, &outer, before, nexts, |owner, tile, piece| {
+            let head = &mut heads[usize::from(owner)];
+            let (mut above, mut tile) = (*head, tile);
+            for next in piece.iter_mut().rev() {
+                *next = above;
+                above = tile;
+                tile -= 1;
+            }
+            *head = above;
+        });
+    }
+
+    fn runs(&self, up: bool, before: usize, heads: &mut [u32], nexts: &mut [u32]) {
+        let modulus = self.moduli.iter().rfind(|&&modulus| modulus > 1);
+        let modulus = modulus.map_or(1, |&modulus| modulus as usize);
+        let length = self.lines[0].length;
+        let outer = self.outer(1);
+        self.pieces(length, &outer, before, nexts, |owner, tile, piece| {
+            let mut at = usize::from(owner) % modulus;
+            // The heads of those whose numbers differ in the last coordinate alone.
+            let heads = &mut heads[usize::from(owner) - at..][..modulus];
+            let (mut piece, mut tile) = (piece, tile);
+            while !piece.is_empty() {
+                let run = if up { at + 1 } else { modulus - at }.min(piece.len());
+                let (rest, nexts) = piece.split_at_mut(piece.len() - run);
+                if up {
+                    for (head, next) in heads[at + 1 - run..=at].iter_mut().zip(nexts).rev() {
+                        *next = *head;
+                        *head = tile;
+                        tile -= 1;
+                    }
+                    at = modulus - 1;
+                } else {
+                    for (head, next) in heads[at..].iter_mut().zip(nexts.iter_mut().rev()) {
+                        *next = *head;
+                        *head = tile;
+                        tile -= 1;
+                    }
+                    at = 0;
+                }
+                piece = rest;
+            }
+        });
+    }
+
+    /// Moves heads down by some steps along the slowest line, which are so many tiles.
+    fn move_heads(&self, steps: usize, tiles: usize, heads: &mut [u32]) {
+        let Some(line) = self.lines.last() else {
+            return;
+        };
+        let down = self.down(&times(self.moduli, &line.step, steps));
+        let above = heads.to_vec();
+        for (q, head) in down.iter().zip(above) {
+            heads[usize::from(*q)] = head - tiles as u32;
+        }
+    }
+}
+
+/// The shortest lines whose runs pay.
+const SHORTEST: usize = 16;
+
+/// One step, then the other.
+fn sum(moduli: &[u32], a: &Step, b: &Step) -> Step {
+    let mut sum = [0; 5];
+    for (i, modulus) in moduli.iter().enumerate() {
+        sum[i] = (a[i] + b[i]) % modulus;
+    }
+    sum
+}
+
+/// A step several times.
+fn times(moduli: &[u32], step: &Step, times: usize) -> Step {
+    let mut product = [0; 5];
+    for (i, &modulus) in moduli.iter().enumerate() {
+        product[i] = (times % modulus as usize) as u32 * step[i] % modulus;
+    }
+    product
 }
 
 #[cfg(test)]
 mod tests {
     use super::*;
     use crate::plan_list::list_of;
-    use oracle::plan::plan_job;
+    use oracle::plan::{plan_job, Plan};
     use oracle::random::Random;
 
-    #[test]
-    fn both_ways_leave_the_oracles_lists() {
-        let mut random = Random::new(14);
-        let mut runs = 0;
-        for _ in 0..3000 {
-            let d = random.between(2, 5) as usize;
-            let p = random.between(1, 40) as u32;
-            let weights: Vec<u32> = (0..d).map(|_| random.between(0, 9) as u32).collect();
-            let mut plan = plan_job(p, d as u32, &vec![99; d], &weights, &[]).unwrap();
-            match random.between(0, 3) {
-                // A hand-made plan in shape: any rows, or other cuts.
-                0 => {
-                    for i in 0..d {
-                        for k in 0..d {
-                            let m = u64::from(plan.moduli[i]);
-                            plan.matrix[i][k] = random.between(0, m - 1) as u32;
-                        }
-                    }
-                }
-                1 => {
-                    let most = [99, 30, 9, 6][d - 2];
-                    plan.cuts[..d].fill_with(|| random.between(1, most) as u32);
-                }
-                _ => (),
-            }
-            // As thick as may be.
-            if random.once_in(2) {
+    /// A plan of the planner's, or one in shape with other rows or other cuts.
+    fn any_plan(random: &mut Random) -> Plan {
+        let d = random.between(2, 5) as usize;
+        let p = random.between(1, 40) as u32;
+        let weights: Vec<u32> = (0..d).map(|_| random.between(0, 9) as u32).collect();
+        let mut plan = plan_job(p, d as u32, &vec![120; d], &weights, &[]).unwrap();
+        if random.once_in(3) {
+            for i in 0..d {
+                let most = u64::from(plan.moduli[i]) - 1;
                 for k in 0..d {
-                    plan.least[k] = plan.extents[k] / plan.cuts[k];
+                    // Steps of one up and down are found more often, and none.
+                    let any = random.between(0, most);
+                    plan.matrix[i][k] = *random.pick(&[0, 1.min(most), most, any]) as u32;
                 }
             }
-            let list = list_of(&plan);
-            runs += u32::from(consecutive(&list));
-            let tiles = plan.tiles() as usize;
-            let mut expected = (vec![7; p as usize], vec![7; tiles]);
-            oracle::chains::chains(&plan, &mut expected.0, &mut expected.1).unwrap();
-            let mut lists = (vec![7; p as usize], vec![7; tiles]);
-            assert_eq!(chains(&list, &mut lists.0, &mut lists.1), Ok(()));
-            assert_eq!(lists, expected, "{plan:?}");
         }
-        assert!((1000..2500).contains(&runs), "{runs}");
+        if random.once_in(3) {
+            let most = [120, 24, 8, 6][d - 2];
+            let any = random.between(1, most) as u32;
+            plan.cuts[..d].fill_with(|| *random.pick(&[1, 2, 4, any]));
+        }
+        // As thick as may be.
+        if random.once_in(2) {
+            for k in 0..d {
+                plan.least[k] = plan.extents[k] / plan.cuts[k];
+            }
+        }
+        plan
+    }
+
+    #[test]
+    fn all_ways_leave_the_oracles_lists() {
+        let mut random = Random::new(14);
+        let [mut runs, mut stays, mut fours, mut slabs] = [0; 4];
+        for _ in 0..6000 {
+            let plan = any_plan(&mut random);
+            let list = list_of(&plan);
+            let lent = (vec![7; plan.p as usize], vec![7; plan.tiles() as usize]);
+            let mut expected = lent.clone();
+            oracle::chains::chains(&plan, &mut expected.0, &mut expected.1).unwrap();
+            for call in [chains, chains_by_slabs] {
+                let mut lists = lent.clone();
+                assert_eq!(call(&list, &mut lists.0, &mut lists.1), Ok(()));
+                assert_eq!(lists, expected, "{plan:?}");
+            }
+            let grid = Grid::new(&list);
+            let visited = |visit: &dyn Fn(&mut [u32], &mut [u32])| {
+                let mut lists = lent.clone();
+                lists.0.fill(0);
+                visit(&mut lists.0, &mut lists.1);
+                assert_eq!(lists, expected, "{plan:?}");
+            };
+            visited(&|heads, nexts| grid.singles(0, heads, nexts));
+            if let Some(ways) = grid.in_fours() {
+                visited(&|heads, nexts| grid.fours(&ways, 0, heads, nexts));
+                fours += 1;
+            }
+            if grid.stays_put() {
+                visited(&|heads, nexts| grid.stays(0, heads, nexts));
+                stays += 1;
+            }
+            if let Some(up) = grid.counts() {
+                visited(&|heads, nexts| grid.runs(up, 0, heads, nexts));
+                runs += 1;
+            }
+            if let Some(line) = grid.lines.last() {
+                let slab = plan.tiles() as u32 / line.length as u32;
+                slabs += u32::from(expected.0.iter().all(|head| (1..=slab).contains(head)));
+            }
+        }
+        let seen = [runs, stays, fours, slabs];
+        assert!(seen.iter().all(|&times| times > 300), "{seen:?}");
+    }
+
+    #[test]
+    fn the_ways_of_plans_like_the_timed_ones() {
+        for (p, cuts, merged, up) in [
+            (64, &[64, 64][..], 2, Some(true)),
+            (64, &[1, 64, 64], 2, Some(false)),
+            (64, &[2, 32, 64], 2, Some(false)),
+            (64, &[2, 2, 16, 64], 4, None),
+            (64, &[2, 2, 1, 32, 32], 4, None),
+            (256, &[64, 64, 64], 3, None),
+            (256, &[8, 8, 8, 16, 16], 5, None),
+        ] {
+            let list = list_of(&crate::jobs::by_hand(p, cuts));
+            let grid = Grid::new(&list);
+            assert_eq!((grid.lines.len(), grid.counts()), (merged, up), "{cuts:?}");
+            assert!(grid.in_fours().is_some(), "{cuts:?}");
+            assert_eq!(grid.stays_put(), cuts[0] == 8, "{cuts:?}");
+        }
     }
 
     #[test]
     fn refused_lists_keep_their_contents() {
         let list = list_of(&plan_job(4, 3, &[8; 3], &[1; 3], &[]).unwrap());
-        let (mut heads, mut nexts) = ([7; 4], [7; 9]);
-        assert_eq!(chains(&list, &mut heads, &mut nexts), Err(9));
-        assert_eq!(chains(&list[1..], &mut heads, &mut nexts), Err(6));
-        assert_eq!((heads, nexts), ([7; 4], [7; 9]));
+        for call in [chains, chains_by_slabs] {
+            let (mut heads, mut nexts) = ([7; 4], [7; 9]);
+            assert_eq!(call(&list, &mut heads, &mut nexts), Err(9));
+            assert_eq!(call(&list, &mut heads[1..], &mut nexts[1..]), Err(9));
+            assert_eq!(call(&list[1..], &mut heads, &mut nexts), Err(6));
+            assert_eq!((heads, nexts), ([7; 4], [7; 9]));
+        }
     }
 }

@@ -419,25 +419,47 @@ fn visits(plan: &Plan, dimensions: &[u32]) -> Vec<Visit> {
     visits
 }
 
-/// Plans of 16,777,216 tiles.
-pub fn largest_grids() -> Vec<(&'static str, PlanList)> {
-    let two = plan_job(4096, 2, &[4096; 2], &[1; 2], &[]).expect("the grid of document 01");
-    // Uncut in one dimension, since the other weights are nothing beside the first.
-    let three = plan_job(4096, 3, &[4096; 3], &[u32::MAX, 0, 0], &[]).expect("a roomy grid");
-    // Larger even cuts than the planner's own, with moduli and matrix by the same formulas.
-    let cubes = by_hand(4096, &[256, 256, 256]);
-    let five = by_hand(2048, &[16, 16, 16, 64, 64]);
-    [
-        ("chains, cuts 4096 4096", two),
-        ("chains, cuts 1 4096 4096", three),
-        ("chains, cuts 256 256 256", cubes),
-        ("chains, cuts 16 16 16 64 64", five),
-    ]
-    .map(|(what, plan)| (what, list_of(&plan)))
-    .to_vec()
+/// A plan whose chains are timed.
+pub struct Chained {
+    pub what: String,
+    pub plan: PlanList,
+    /// Is its ratio asked for?
+    pub wanted: bool,
 }
 
-fn by_hand(p: u32, cuts: &[u32]) -> Plan {
+/// Plans of 16,777,216 tiles, and two smaller ones. The first dimensions of some have so few slabs that the lines of
+/// tiles along them are short.
+pub fn chained() -> Vec<Chained> {
+    let planned = |p, extents: &[u32], weights: &[u32]| {
+        plan_job(p, extents.len() as u32, extents, weights, &[]).expect("a roomy grid")
+    };
+    [
+        (planned(4096, &[4096; 2], &[1; 2]), true),
+        // Uncut in one dimension, since the other weights are nothing beside the first.
+        (planned(4096, &[4096; 3], &[u32::MAX, 0, 0]), true),
+        // Larger even cuts than the planner's own, with moduli and matrix by the same formulas.
+        (by_hand(4096, &[2, 2048, 4096]), true),
+        (by_hand(4096, &[256, 256, 256]), true),
+        (by_hand(4096, &[16, 16, 16, 64, 64]), true),
+        (by_hand(4096, &[2, 2, 1024, 4096]), false),
+        (by_hand(4096, &[2, 2, 1, 2048, 2048]), false),
+        (planned(4096, &[4096; 3], &[1; 3]), false),
+        (planned(4, &[8; 3], &[1; 3]), false),
+    ]
+    .map(|(plan, wanted)| {
+        let cuts = plan.cuts[..plan.dimensions()].iter();
+        let words: Vec<String> = cuts.map(u32::to_string).collect();
+        Chained {
+            what: format!("chains, cuts {}", words.join(" ")),
+            plan: list_of(&plan),
+            wanted,
+        }
+    })
+    .into()
+}
+
+/// A plan with these cuts, whatever they cost.
+pub fn by_hand(p: u32, cuts: &[u32]) -> Plan {
     let d = cuts.len();
     let mut plan = plan_job(p, d as u32, &vec![4096; d], &vec![1; d], &[]).expect("a roomy grid");
     plan.cuts[..d].copy_from_slice(cuts);
@@ -465,15 +487,33 @@ pub fn thicken_plan(random: &mut Random, plan: &mut Plan) {
 #[cfg(test)]
 mod tests {
     use super::*;
-    use crate::plan_list::{in_shape, tiles, CUTS, DIMENSIONS};
+    use crate::plan_list::{in_shape, tiles, CUTS, DIMENSIONS, PROCESSORS};
     use crate::planning::remembered;
     use crate::subject::RIVAL;
 
     #[test]
-    fn the_largest_grids_are_in_shape() {
-        for (what, plan) in largest_grids() {
-            assert!(in_shape(&plan), "{what}");
-            assert_eq!(tiles(&plan), 16_777_216, "{what}");
+    fn the_plans_with_chains_are_in_shape_and_even() {
+        let all = chained();
+        let names: Vec<&str> = all.iter().map(|asked| asked.what.as_str()).collect();
+        let expected = [
+            "4096 4096",
+            "1 4096 4096",
+            "2 2048 4096",
+            "256 256 256",
+            "16 16 16 64 64",
+            "2 2 1024 4096",
+            "2 2 1 2048 2048",
+            "64 64 64",
+            "2 2 2",
+        ];
+        assert_eq!(names, expected.map(|cuts| format!("chains, cuts {cuts}")));
+        for (at, Chained { what, plan, wanted }) in all.iter().enumerate() {
+            assert!(in_shape(plan), "{what}");
+            assert_eq!(tiles(plan) == 16_777_216, at < 7, "{what}");
+            assert_eq!(*wanted, at < 5, "{what}");
+            for cut in &plan[CUTS..][..plan[DIMENSIONS] as usize] {
+                assert_eq!(tiles(plan) / cut % plan[PROCESSORS], 0, "{what}");
+            }
         }
     }
 

@@ -10,13 +10,16 @@ use std::hint::black_box;
 use std::path::Path;
 use std::process::{Command, ExitCode, Stdio};
 
+use bench::chains::chains_by_slabs;
 use bench::diagonal;
-use bench::jobs::{self, Job, ProbeLines, Question, Visit};
+use bench::jobs::{self, Chained, Job, ProbeLines, Question, Visit};
 use bench::linked::PROVED;
-use bench::plan_list::{COST_LOW, LEAST, PLAN_LENGTH, PROCESSORS, WEIGHTS};
+use bench::plan_list::{tiles, COST_LOW, LEAST, PLAN_LENGTH, PROCESSORS, WEIGHTS};
 use bench::planning;
 use bench::probes::slabs_by_division;
-use bench::subject::{DiagonalCall, PlanCall, Planned, ProbeCall, Returned, Subject, Told, RIVAL};
+use bench::subject::{
+    ChainCall, DiagonalCall, PlanCall, Planned, ProbeCall, Returned, Subject, Told, RIVAL,
+};
 use bench::timing::{contest, contest_of_commands, least_seconds, print_head, print_line, Contest};
 
 struct Request {
@@ -546,27 +549,35 @@ fn timetables(repeats: usize) {
     }
 }
 
+/// All chains of a plan in one call: beside the rival, which writes both lists tile by tile as the proved call does,
+/// and beside a loop that leaves the same lists in the end.
 fn chains(repeats: usize) {
     let mut ours = (vec![0; 4096], vec![0; 16_777_216]);
     let mut theirs = ours.clone();
-    for (what, plan) in jobs::largest_grids() {
-        let p = plan[PROCESSORS] as usize;
-        let fill = |side: &Subject, (heads, nexts): &mut (Vec<u32>, Vec<u32>)| {
-            let told = black_box(side.chains)(&plan, &mut heads[..p], nexts);
+    for Chained { what, plan, wanted } in jobs::chained() {
+        let (p, tiles) = (plan[PROCESSORS] as usize, tiles(&plan) as usize);
+        let fill = |call: ChainCall, (heads, nexts): &mut (Vec<u32>, Vec<u32>)| {
+            let told = black_box(call)(&plan, &mut heads[..p], &mut nexts[..tiles]);
             assert_eq!(told, Ok(()), "{what}");
             // Some of the answers; all of them are compared below.
-            u64::from(heads[p - 1]) + u64::from(nexts[123_456])
+            u64::from(heads[p - 1]) + u64::from(nexts[tiles / 3])
         };
-        let row = contest(
-            what,
-            Some(1.2),
-            1,
-            repeats,
-            || fill(&PROVED, &mut ours),
-            || fill(&RIVAL, &mut theirs),
-        );
-        assert!(ours == theirs, "{what}");
-        print_line(&row);
+        let rivals: [(&str, Option<f64>, ChainCall); 2] = [
+            ("", wanted.then_some(1.2), RIVAL.chains),
+            (", beside slabs copied", None, chains_by_slabs),
+        ];
+        for (beside, target, rival) in rivals {
+            let row = contest(
+                &format!("{what}{beside}"),
+                target,
+                1,
+                repeats,
+                || fill(PROVED.chains, &mut ours),
+                || fill(rival, &mut theirs),
+            );
+            assert!(ours == theirs, "{what}{beside}");
+            print_line(&row);
+        }
     }
 }
 

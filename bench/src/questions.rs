@@ -126,7 +126,7 @@ pub fn slab_of(plan: &[u32], dimension: u32, element: u32, answer: &mut [u32]) -
     Ok(())
 }
 
-/// The number of the tile at a position.
+/// The number of the tile at a position; the first dimension runs fastest.
 pub fn tile_number(plan: &[u32], position: &[u32], answer: &mut [u32]) -> Told {
     let plan = checked(plan)?;
     check_position(plan, position)?;
@@ -134,7 +134,7 @@ pub fn tile_number(plan: &[u32], position: &[u32], answer: &mut [u32]) -> Told {
         return Err(9);
     };
     let mut before = 0;
-    for k in 0..plan[DIMENSIONS] as usize {
+    for k in (0..plan[DIMENSIONS] as usize).rev() {
         before = before * plan[CUTS + k] + position[k];
     }
     *tile = before + 1;
@@ -152,7 +152,7 @@ pub fn tile_position(plan: &[u32], tile: u32, answer: &mut [u32]) -> Told {
     if answer.len() != d {
         return Err(9);
     }
-    for k in (0..d).rev() {
+    for k in 0..d {
         let cut = plan[CUTS + k];
         answer[k] = before % cut;
         before /= cut;

@@ -16,6 +16,7 @@ pub type Returned = u64;
 pub type PlanCall = fn(u32, u32, &[u32], &[u32], &[u32]) -> Planned;
 pub type DiagonalCall = fn(u32, u32, &[u32], &[u32], &[u32], &mut [u32]) -> Returned;
 pub type ProbeCall = fn(&[u32], u32, &[u32], &mut [u32]) -> Returned;
+pub type ChainCall = fn(&[u32], &mut [u32], &mut [u32]) -> Told;
 pub type StepCall = fn(&[u32], &[u32], u32, bool, &mut [u32]) -> Told;
 pub type TimetableCall = fn(&[u32], u32, bool, u32, u32, &mut [u32]) -> Told;
 
@@ -35,12 +36,12 @@ pub struct Subject {
     pub tile_position: fn(&[u32], u32, &mut [u32]) -> Told,
     pub step: StepCall,
     pub timetable: TimetableCall,
-    pub chains: fn(&[u32], &mut [u32], &mut [u32]) -> Told,
+    pub chains: ChainCall,
 }
 
 /// The rival: the paper's enumeration (Figure 2, one factor inside the other), the two older layouts by their
 /// formulas, the questions with the same checks, probe lines and the timetable by the same method, and the fastest
-/// chains.
+/// chains tile by tile.
 pub const RIVAL: Subject = Subject {
     name: "rival",
     plan: planning::figure_2_nested,

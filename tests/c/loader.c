@@ -90,9 +90,10 @@ static void load(const uint32_t *plan)
 
 typedef uint64_t planner(uint32_t, uint32_t, const uint32_t *, size_t, const uint32_t *, size_t, const uint32_t *, size_t, uint32_t *, size_t);
 
-static void walk(planner *make, uint32_t processors, uint32_t d)
+/* The slabs of dimension 1 have at least so many elements, of 4096. */
+static void walk(planner *make, uint32_t processors, uint32_t d, uint32_t thickness)
 {
-    const uint32_t extents[MOST] = {4096, 4096, 4096, 4096, 4096}, weights[MOST] = {1, 1, 1, 1, 1}, least[MOST] = {4, 3, 2, 1, 4};
+    const uint32_t extents[MOST] = {4096, 4096, 4096, 4096, 4096}, weights[MOST] = {1, 1, 1, 1, 1}, least[MOST] = {thickness, 3, 2, 1, 4};
     uint32_t plan[N];
     if (make(processors, d, extents, d, weights, d, least, d, plan, N) != MULTIPARTITION_ANSWERED)
         fail("no plan");
@@ -126,13 +127,16 @@ int main(void)
         fail("sigaction");
     page = (size_t)sysconf(_SC_PAGESIZE);
     places = page / sizeof *nexts;
-    /* Runs of a thousand tiles, of tens and of a few, and, in the diagonal plans, tiles one by one. */
-    walk(multipartition_plan, 1024, 2);
-    walk(multipartition_plan, 4096, 3);
-    walk(multipartition_plan, 1000, 4);
-    walk(multipartition_plan, 3360, 5);
-    walk(multipartition_plan, 997, 2);
-    walk(multipartition_diagonal, 997, 2);
-    walk(multipartition_diagonal, 961, 3);
+    /* Along dimension 1 a thousand tiles, tens and about ten; then two, and one where it is uncut. */
+    walk(multipartition_plan, 1024, 2, 4);
+    walk(multipartition_plan, 4096, 3, 4);
+    walk(multipartition_plan, 1000, 4, 4);
+    walk(multipartition_plan, 3360, 5, 4);
+    walk(multipartition_plan, 997, 2, 4);
+    walk(multipartition_diagonal, 997, 2, 4);
+    walk(multipartition_diagonal, 961, 3, 4);
+    walk(multipartition_plan, 2048, 3, 2048);
+    walk(multipartition_plan, 1000, 3, 4096);
+    walk(multipartition_plan, 1000, 5, 4096);
     return EXIT_SUCCESS;
 }

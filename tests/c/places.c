@@ -135,8 +135,8 @@ static void answer_places(const uint32_t *plan)
     EXPECT(multipartition_slab_of(plan, n, 2, 34, ready(answer), MULTIPARTITION_SLAB_OF_LENGTH), 0);
     EXPECT(answer[MULTIPARTITION_SLAB_OF], 6);
     EXPECT(multipartition_tile_number(plan, n, position, D, ready(answer), MULTIPARTITION_TILE_LENGTH), 0);
-    EXPECT(answer[MULTIPARTITION_TILE], 1354579);
-    EXPECT(multipartition_tile_position(plan, n, 1354579, ready(answer), D), 0);
+    EXPECT(answer[MULTIPARTITION_TILE], 1202144);
+    EXPECT(multipartition_tile_position(plan, n, 1202144, ready(answer), D), 0);
     expect_five("a coordinate of a tile", answer, position);
 }
 
@@ -323,18 +323,45 @@ static void plan_by_hand(void)
     EXPECT(answer[MULTIPARTITION_NEIGHBOUR], 0);
 }
 
+/* The chains of 4 processors on 8 8 8; of 5 on 4 9 9, where dimension 1 is uncut; and of 6 on 9 9 9, where the cuts 2 3 6 all differ. */
 static void chain_lists(void)
 {
+    static const struct {
+        uint32_t p, extents[3], tiles, lowest[6], higher[36];
+    } figures[3] = {{4, {8, 8, 8}, 8, {1, 4, 2, 3}, {8, 7, 6, 5, 0, 0, 0, 0}},
+                    {5, {4, 9, 9}, 25, {1, 5, 4, 3, 2}, {7, 8, 9, 10, 6, 12, 13, 14, 15, 11, 17, 18, 19, 20, 16, 22, 23, 24, 25, 21, 0, 0, 0, 0, 0}},
+                    {6, {9, 9, 9}, 36, {1, 6, 5, 4, 3, 2}, {8,  9,  10, 11, 12, 7,  14, 15, 16, 17, 18, 13, 20, 21, 22, 23, 24, 19,
+                                                            26, 27, 28, 29, 30, 25, 32, 33, 34, 35, 36, 31, 0,  0,  0,  0,  0,  0}}};
     const size_t n = MULTIPARTITION_PLAN_LENGTH;
-    const uint32_t eights[3] = {8, 8, 8}, ones[3] = {1, 1, 1};
-    const uint32_t lowest[4] = {1, 2, 4, 3}, higher[8] = {8, 7, 6, 5, 0, 0, 0, 0};
-    uint32_t plan[ROOM], heads[ROOM], nexts[ROOM];
-    EXPECT(multipartition_plan(4, 3, eights, 3, ones, 3, ones, 3, ready(plan), n), 0);
-    EXPECT(multipartition_chains(plan, n, ready(heads), 4, ready(nexts), 8), 0);
-    for (int q = 0; q < 4; q++)
-        expect("a lowest tile", heads[q], lowest[q]);
-    for (int t = 0; t < 8; t++)
-        expect("a next higher tile", nexts[t], higher[t]);
+    const uint32_t ones[3] = {1, 1, 1};
+    for (int i = 0; i < 3; i++) {
+        uint32_t plan[ROOM], heads[ROOM], nexts[ROOM];
+        EXPECT(multipartition_plan(figures[i].p, 3, figures[i].extents, 3, ones, 3, ones, 3, ready(plan), n), 0);
+        EXPECT(multipartition_chains(plan, n, ready(heads), figures[i].p, ready(nexts), figures[i].tiles), 0);
+        for (uint32_t q = 0; q < figures[i].p; q++)
+            expect("a lowest tile", heads[q], figures[i].lowest[q]);
+        for (uint32_t t = 0; t < figures[i].tiles; t++)
+            expect("a next higher tile", nexts[t], figures[i].higher[t]);
+    }
+}
+
+/* Tile numbers with cuts 2 3 6: the first dimension runs fastest. */
+static void tile_numbers(void)
+{
+    const size_t n = MULTIPARTITION_PLAN_LENGTH;
+    const uint32_t nines[3] = {9, 9, 9}, ones[3] = {1, 1, 1};
+    const struct {
+        uint32_t position[3], tile;
+    } figures[6] = {{{1, 0, 0}, 2}, {{0, 1, 0}, 3}, {{0, 0, 1}, 7}, {{1, 2, 3}, 24}, {{0, 0, 5}, 31}, {{1, 2, 5}, 36}};
+    uint32_t plan[ROOM], answer[ROOM];
+    EXPECT(multipartition_plan(6, 3, nines, 3, ones, 3, nothing, 0, ready(plan), n), 0);
+    for (int i = 0; i < 6; i++) {
+        EXPECT(multipartition_tile_number(plan, n, figures[i].position, 3, ready(answer), MULTIPARTITION_TILE_LENGTH), 0);
+        EXPECT(answer[MULTIPARTITION_TILE], figures[i].tile);
+        EXPECT(multipartition_tile_position(plan, n, figures[i].tile, ready(answer), 3), 0);
+        for (int k = 0; k < 3; k++)
+            expect("a coordinate of a tile of three", answer[k], figures[i].position[k]);
+    }
 }
 
 /* The length is one more than d whatever stands around it and in it, and the answer has so many places for another d too. */
@@ -390,6 +417,7 @@ int main(void)
     largest_length();
     refusal_places();
     plan_by_hand();
+    tile_numbers();
     chain_lists();
     diagonal_places();
     hypercube_places();

@@ -14,9 +14,9 @@
 
 #include "multipartition.h"
 
-enum { THREAD = 1 << 16, GUARD = 1 << 20, UNUSED = 0xA5, MOST = 5, PROBES = 1000, N = MULTIPARTITION_PLAN_LENGTH };
+enum { THREAD = 1 << 16, GUARD = 1 << 20, UNUSED = 0xA5, MOST = 5, PROBES = 1000, SIDE = 1000, N = MULTIPARTITION_PLAN_LENGTH };
 
-static uint32_t plan[N], swept[N], diagonal[N];
+static uint32_t plan[N], swept[N], square[N], diagonal[N];
 static uint32_t position[MOST];
 static uint32_t answer[MULTIPARTITION_TIMETABLE_LENGTH];
 static uint32_t elements[PROBES], slabs[PROBES];
@@ -56,11 +56,13 @@ static void plan_all_diagonally(void)
         }
 }
 
-/* The questions are about the plan of a count with most divisors; for sweeps, with extents that message lengths allow. */
+/* The questions are about the plan of a count with most divisors; for sweeps, with extents that message lengths allow. The chains are also asked of a
+ * plan with SIDE slabs in both of its dimensions, which has fewer processors and fewer tiles. */
 static void plan_one(void)
 {
     const uint32_t narrow[MOST] = {255, 255, 255, 255, 255};
     check(multipartition_plan(3360, MOST, narrow, MOST, weights[0], MOST, least, 0, swept, N));
+    check(multipartition_plan(SIDE, 2, extents, 2, weights[0], 2, least, 0, square, N));
     check(multipartition_plan(3360, MOST, extents, MOST, weights[0], MOST, least, MOST, plan, N));
     tiles = 1;
     for (int k = 0; k < MOST; k++) {
@@ -131,14 +133,27 @@ static void ask_timetable(void)
                 check(multipartition_timetable(swept, N, k, up, step, 3359, answer, MULTIPARTITION_TIMETABLE_LENGTH));
 }
 
-/* The planner's plan, and one by hand in which owners along the last dimension are not consecutive. */
+/* The planner's plan, and by hand with ever more of its dimensions uncut, from the first on and from the last on. Then a plan of two dimensions, in
+ * which owners along dimension 1 are consecutive, and by hand one in which they are not. */
 static void ask_chains(void)
 {
-    uint32_t *last = plan + MULTIPARTITION_MATRIX + (MOST - 1) * (MULTIPARTITION_ROW_LENGTH + 1);
-    check(multipartition_chains(plan, N, heads, plan[MULTIPARTITION_PROCESSORS], nexts, tiles));
-    *last = 0;
-    check(multipartition_chains(plan, N, heads, plan[MULTIPARTITION_PROCESSORS], nexts, tiles));
-    *last = 1;
+    static uint32_t list[N];
+    const size_t p = plan[MULTIPARTITION_PROCESSORS];
+    for (int from_last = 0; from_last < 2; from_last++) {
+        size_t left = tiles;
+        memcpy(list, plan, sizeof list);
+        check(multipartition_chains(list, N, heads, p, nexts, left));
+        for (int i = 0; i < MOST; i++) {
+            uint32_t *cut = list + MULTIPARTITION_CUTS + (from_last ? MOST - 1 - i : i);
+            left /= *cut;
+            *cut = 1;
+            check(multipartition_chains(list, N, heads, p, nexts, left));
+        }
+    }
+    check(multipartition_chains(square, N, heads, SIDE, nexts, SIDE * SIDE));
+    memcpy(list, square, sizeof list);
+    list[MULTIPARTITION_MATRIX + MULTIPARTITION_ROW_LENGTH] = 3;
+    check(multipartition_chains(list, N, heads, SIDE, nexts, SIDE * SIDE));
 }
 
 struct run {

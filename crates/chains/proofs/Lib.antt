@@ -1,4 +1,6 @@
 mod Walking
+mod Running
+mod Merging
 mod Counting
 mod Filling
 mod Outcomes

@@ -9,8 +9,7 @@ use lib.ListN.{length, getD}
 use Rattle.numbers.specs.Products.{product}
 use Rattle.multipartition.specs.Chains.{Stage}
 use Rattle.layout.proofs.Lists.{product-add-one, product-pos}
-use Rattle.chains.specs.Stages.{Onward}
-use Rattle.chains.specs.Walks.{blockSize, BlockTop, lower, TwoSteps, Tables, Led, Walks}
+use Rattle.chains.specs.Walks.{blockSize, BlockTop, lower, Tables, Led, Walks}
 
 -- ---- sizes and coordinates
 
@@ -25,7 +24,7 @@ pub line-size : (p : ℕ) (counts downs : List ℕ) → Tables p counts downs �
 line-size p counts downs t = size-next p counts downs t 0 (omega arith) ∙ omega arith
 
 -- the coordinate of the tile at the top of a block
-top-coordinate : (m b left S : ℕ) → 1 ≤ S → 1 ≤ left → left ≤ b → ((m * b + left) * S - 1) / S % b ≡ left - 1
+pub top-coordinate : (m b left S : ℕ) → 1 ≤ S → 1 ≤ left → left ≤ b → ((m * b + left) * S - 1) / S % b ≡ left - 1
 top-coordinate m b left S some low high =
     ap (λ (n : ℕ). n / S % b) split
     ∙ ap (λ (n : ℕ). n % b) (digits-div (m * b + (left - 1)) below)
@@ -156,69 +155,3 @@ module _ (counts downs : List ℕ) (k : ℕ) (l : k < 5) (q stop top : ℕ) (hea
             let no : left ≡ 0 = omega arith in
             let low : tile ≡ a .whole .block * count * S = a .tile-is ∙ ap (λ (n : ℕ). (a .whole .block * count + n) * S) no ∙ omega arith in
             omega (arith, low, top-is (a .whole), size-next (length heads₀) counts downs t k l)
-
--- ---- a line: along place 0, where a block is one tile
-
--- the line goes on from the tile, whose owner is `here` and whose owner's downward neighbour is `next`
-pub record Along (counts downs : List ℕ) (q stop top tile here next : ℕ) (heads₀ nexts₀ heads nexts : List ℕ) : Type 0 where
-  pub above : top - getD counts 0 0 ≤ tile
-  pub next-is : next ≡ lower downs 0 here
-  pub across : Across counts downs 0 q stop top tile (tile - (top - getD counts 0 0)) here heads₀ nexts₀ heads nexts
-
-module _ (counts downs twice : List ℕ) (q stop top : ℕ) (heads₀ nexts₀ : List ℕ) (t : Tables (length heads₀) counts downs)
-    (two : TwoSteps (length heads₀) downs twice) (b : BlockTop counts 1 (length nexts₀) top) where
-  pub line-room : getD counts 0 0 ≤ top
-  line-room = omega (arith, b .is ∙ ap (λ (n : ℕ). suc (b .block) * n) (line-size (length heads₀) counts downs t))
-
-  pub along-start : (next : ℕ) → q < length heads₀ → next ≡ lower downs 0 q → Along counts downs q stop top top q next heads₀ nexts₀ heads₀ nexts₀
-  along-start next m e =
-      let all : getD counts 0 0 ≡ top - (top - getD counts 0 0) = omega (arith, line-room) in
-      record {
-        above = omega arith;
-        next-is = e;
-        across =
-            subst (λ (left : ℕ). Across counts downs 0 q stop top top left q heads₀ nexts₀ heads₀ nexts₀) all
-            (across-start counts downs 0 (omega arith) q stop top heads₀ nexts₀ t b m);
-      }
-
-  module _ (last tile here next : ℕ) (heads nexts : List ℕ) (last-is : last ≡ max stop (top - getD counts 0 0))
-      (a : Along counts downs q stop top tile here next heads₀ nexts₀ heads nexts) where
-    -- the next tile may be visited
-    pub along-ready : last < tile → (here < length heads) × (tile ≤ length nexts)
-    along-ready more = (
-      omega (arith, a .across .at-below, a .across .heads-kept),
-      omega (arith, across-within counts downs 0 (omega arith) q stop top heads₀ nexts₀ t tile _ here heads nexts (a .across), a .across .nexts-kept),
-    )
-
-    -- and is visited
-    pub along-step : (after : ℕ) (heads' nexts' : List ℕ) → last < tile → after ≡ getD twice here 0
-        → Onward (λ own. own tile ≡ here) tile (tile - 1) heads nexts heads' nexts'
-        → Along counts downs q stop top (tile - 1) next after heads₀ nexts₀ heads' nexts'
-    along-step after heads' nexts' more e visited =
-        let fewer : tile - (top - getD counts 0 0) - 1 ≡ tile - 1 - (top - getD counts 0 0) = omega arith in
-        record {
-          above = omega (arith, last-is);
-          next-is = e ∙ two .at here (a .across .at-below) ∙ ap (lower downs 0) (sym (a .next-is));
-          across =
-              rw (← fewer)
-              (across-step counts downs 0 (omega arith) q stop top heads₀ nexts₀ t tile _ here heads nexts (a .across) (tile - 1) next heads' nexts'
-              (omega (arith, last-is)) refl (a .next-is) walked);
-        }
-      where
-        walked : Walks counts downs 0 here stop tile heads nexts heads' nexts'
-        walked =
-            let here-top : max stop tile ≡ tile = omega (arith, last-is, more) in
-            let here-end : tile - 1 ≡ max stop (tile - 1) = omega (arith, last-is, more) in
-            record {
-              heads-kept = visited .heads-kept;
-              nexts-kept = visited .nexts-kept;
-              stages = λ own lent owners stage.
-                  subst (λ (n : ℕ). Stage own (length nexts) (length heads) n lent heads' nexts') here-end
-                  (visited .stages own lent (owners .1) (subst (λ (n : ℕ). Stage own (length nexts) (length heads) n lent heads nexts) here-top stage));
-            }
-
-    -- no tile above `stop` is left
-    pub along-end : tile ≤ last → Walks counts downs 1 q stop top heads₀ nexts₀ heads nexts
-    along-end none =
-        across-end counts downs 0 (omega arith) q stop top heads₀ nexts₀ t tile _ here heads nexts (a .across)
-        (omega (arith, none, last-is, a .above, line-size (length heads₀) counts downs t))

@@ -1,9 +1,11 @@
 // The chains of a plan's tiles, in two lent lists. The tiles are visited from the highest down, and each visit leads from one stage of the walk to
 // the next (document 02, request e). The first dimension runs fastest (request i), and the owner of the tile one step down along a dimension is looked
-// up in a table of downward neighbours: no tile takes a division. Dimensions that are not cut are left out.
+// up in a table of downward neighbours: no tile takes a division. Dimensions that follow each other are walked as one where they can be.
 use layout::Plan;
+ghost use mathlib.Core.Bool.{true};
 ghost use mathlib.Core.Path.{_≡_};
-ghost use Prim.Native.Nat.{ℕ, _+_, _-_, _<_, _≤_, max};
+ghost use Prim.Native.Nat.{ℕ, _+_, _-_, _<_, _≤_, min, max, _*_, _%_};
+ghost use lib.Dec.{eqb};
 ghost use lib.ListN.{length, replicate};
 ghost use Rattle.multipartition.specs.Plans.{tilesOf};
 ghost use Rattle.multipartition.specs.Questions.{tileOwner, chainsAnswer, stageAnswer};
@@ -11,11 +13,17 @@ ghost use Rattle.layout.specs.Plans.{layoutOf};
 ghost use Rattle.layout.specs.Shaped.{Shaped};
 ghost use Rattle.chains.specs.Told.{Answers};
 ghost use Rattle.chains.specs.Stages.{Visited, Onward};
-ghost use Rattle.chains.specs.Walks.{blockSize, BlockTop, lower, Tables, TwoSteps, Walks, Tabled, Counted};
+ghost use Rattle.chains.specs.Walks.{blockSize, BlockTop, lower, TwoSteps, FallingRuns, RisingRuns, SteadyRuns, Leaps, Tables, Run, Walks, Tabled, Counted, Continues, Grouped};
 
 pub enum Chained {
     Done,
     Refused { number: u32, place: u32 },
+}
+
+// A group of dimensions that are counted as one: its place among the counts, and its first dimension.
+struct Group {
+    at: usize,
+    first: usize,
 }
 
 // Zero in every place.
@@ -39,6 +47,13 @@ fn larger(a: u32, b: u32) -> u32
     b
 }
 
+// A tile as a place.
+fn wide(tile: u32) -> usize
+    ensures { λ r. ⌜ r ≡ tile ⌝ }
+{
+    tile as usize
+}
+
 // A number of a table as a place.
 fn place(q: u16) -> usize
     ensures { λ r. ⌜ r ≡ q ⌝ }
@@ -56,18 +71,17 @@ fn lower(downs: &[u16; 20480], k: usize, q: usize) -> usize
 }
 
 // Visits a tile, the highest that is not yet visited: its next is its owner's lowest tile so far, and it becomes the lowest. Its place in the second
-// list is written; all other places of that list stay.
-fn visit(tile: u32, owner: usize, heads: &mut [u32], nexts: &mut [u32])
-    requires { ⌜ (1 ≤ tile) × (tile ≤ length (now nexts)) × (owner < 4096) × (owner < length (now heads)) ⌝ }
-    ensures { λ r. ⌜ Onward (λ own. own tile ≡ owner) tile (tile - 1) (now (heads .entry)) (now (nexts .entry)) (now (heads .exit)) (now (nexts .exit)) ⌝ }
+// list is `at`; all other places of that list stay.
+fn visit(tile: u32, at: usize, owner: usize, heads: &mut [u32], nexts: &mut [u32])
+    requires { ⌜ (tile ≡ at + 1) × (tile ≤ length (now nexts)) × (owner < 4096) × (owner < length (now heads)) ⌝ }
+    ensures { λ r. ⌜ Onward (λ own. own tile ≡ owner) tile at (now (heads .entry)) (now (nexts .entry)) (now (heads .exit)) (now (nexts .exit)) ⌝ }
 {
-    let at = (tile as usize) - 1;
     nexts[at] = heads[owner];
     heads[owner] = tile;
 }
 
 // Visits a line along place 0. Two owners go along, each taking two steps at once, so that a look-up need not wait for the one before.
-fn line<'a>(
+fn paired_line<'a>(
     counts: &'a [u32; 5],
     downs: &'a [u16; 20480],
     twice: &'a [u16; 4096],
@@ -86,32 +100,191 @@ fn line<'a>(
     let mut next = lower(downs, 0, q);
     while last < tile {
         let after = place(twice[here]);
-        visit(tile, here, heads, nexts);
+        visit(tile, wide(tile) - 1, here, heads, nexts);
         tile = tile - 1;
         here = next;
         next = after;
     }
 }
 
+// The smaller of two numbers.
+fn smaller(a: usize, b: usize) -> usize
+    ensures { λ r. ⌜ r ≡ min a b ⌝ }
+{
+    if a <= b {
+        return a;
+    }
+    b
+}
+
+// Visits `count` tiles, the highest of them `top`, that belong to the processors q, q - 1, ..
+fn falling_run(top: u32, q: usize, count: usize, heads: &mut [u32], nexts: &mut [u32])
+    requires { ⌜ (count ≤ q + 1) × (count ≤ top) × (top ≤ length (now nexts)) × (q < 4096) × (q < length (now heads)) ⌝ }
+    ensures { λ r. ⌜ Run (λ j. q - j) top count (now (heads .entry)) (now (nexts .entry)) (now (heads .exit)) (now (nexts .exit)) ⌝ }
+{
+    let from = q + 1 - count;
+    let below = (top as usize) - count;
+    let mut tile = top;
+    let mut i = count;
+    while 0 < i {
+        i = i - 1;
+        visit(tile, below + i, from + i, heads, nexts);
+        tile = tile - 1;
+    }
+}
+
+// Visits a line along place 0 by runs whose owners fall by one from tile to tile.
+fn falling_line<'a>(
+    counts: &'a [u32; 5],
+    downs: &'a [u16; 20480],
+    runs: &'a [u16; 4096],
+    q: usize,
+    top: u32,
+    stop: u32,
+    heads: &mut [u32],
+    nexts: &mut [u32],
+)
+    requires { ⌜ (Tables (length (now heads)) (now counts) (now downs)) × (FallingRuns (length (now heads)) (now downs) (now runs)) × (q < length (now heads)) × (BlockTop (now counts) 1 (length (now nexts)) top) ⌝ }
+    ensures { λ r. ⌜ Walks (now (counts .entry)) (now (downs .entry)) 1 q stop top (now (heads .entry)) (now (nexts .entry)) (now (heads .exit)) (now (nexts .exit)) ⌝ }
+{
+    let last = larger(stop, top - counts[0]);
+    let mut tile = top;
+    let mut here = q;
+    while last < tile {
+        let n = smaller(place(runs[here]) + 1, (tile - last) as usize);
+        falling_run(tile, here, n, heads, nexts);
+        here = lower(downs, 0, here - (n - 1));
+        tile = tile - (n as u32);
+    }
+}
+
+// Visits `count` tiles, the highest of them `top`, that belong to the processors q, q + 1, ..
+fn rising_run(top: u32, q: usize, count: usize, heads: &mut [u32], nexts: &mut [u32])
+    requires { ⌜ (q + count ≤ 4096) × (count ≤ top) × (top ≤ length (now nexts)) × (q + count ≤ length (now heads)) ⌝ }
+    ensures { λ r. ⌜ Run (λ j. q + j) top count (now (heads .entry)) (now (nexts .entry)) (now (heads .exit)) (now (nexts .exit)) ⌝ }
+{
+    let below = (top as usize) - count;
+    let mut tile = top;
+    let mut owner = q;
+    let mut i = count;
+    while 0 < i {
+        i = i - 1;
+        visit(tile, below + i, owner, heads, nexts);
+        tile = tile - 1;
+        owner = owner + 1;
+    }
+}
+
+// Visits a line along place 0 by runs whose owners rise by one from tile to tile.
+fn rising_line<'a>(
+    counts: &'a [u32; 5],
+    downs: &'a [u16; 20480],
+    runs: &'a [u16; 4096],
+    q: usize,
+    top: u32,
+    stop: u32,
+    heads: &mut [u32],
+    nexts: &mut [u32],
+)
+    requires { ⌜ (Tables (length (now heads)) (now counts) (now downs)) × (RisingRuns (length (now heads)) (now downs) (now runs)) × (q < length (now heads)) × (BlockTop (now counts) 1 (length (now nexts)) top) ⌝ }
+    ensures { λ r. ⌜ Walks (now (counts .entry)) (now (downs .entry)) 1 q stop top (now (heads .entry)) (now (nexts .entry)) (now (heads .exit)) (now (nexts .exit)) ⌝ }
+{
+    let last = larger(stop, top - counts[0]);
+    let mut tile = top;
+    let mut here = q;
+    while last < tile {
+        let n = smaller(place(runs[here]) + 1, (tile - last) as usize);
+        rising_run(tile, here, n, heads, nexts);
+        here = lower(downs, 0, here + (n - 1));
+        tile = tile - (n as u32);
+    }
+}
+
+// Visits `count` tiles, the highest of them `top`, that all belong to q.
+fn steady_run(top: u32, q: usize, count: usize, heads: &mut [u32], nexts: &mut [u32])
+    requires { ⌜ (count ≤ top) × (top ≤ length (now nexts)) × (q < 4096) × (q < length (now heads)) ⌝ }
+    ensures { λ r. ⌜ Run (λ j. q) top count (now (heads .entry)) (now (nexts .entry)) (now (heads .exit)) (now (nexts .exit)) ⌝ }
+{
+    let below = (top as usize) - count;
+    let mut tile = top;
+    let mut i = count;
+    while 0 < i {
+        i = i - 1;
+        visit(tile, below + i, q, heads, nexts);
+        tile = tile - 1;
+    }
+}
+
+// Visits a line along place 0 that belongs to one processor.
+fn steady_line<'a>(
+    counts: &'a [u32; 5],
+    downs: &'a [u16; 20480],
+    q: usize,
+    top: u32,
+    stop: u32,
+    heads: &mut [u32],
+    nexts: &mut [u32],
+)
+    requires { ⌜ (Tables (length (now heads)) (now counts) (now downs)) × (SteadyRuns (length (now heads)) (now downs)) × (q < length (now heads)) × (BlockTop (now counts) 1 (length (now nexts)) top) ⌝ }
+    ensures { λ r. ⌜ Walks (now (counts .entry)) (now (downs .entry)) 1 q stop top (now (heads .entry)) (now (nexts .entry)) (now (heads .exit)) (now (nexts .exit)) ⌝ }
+{
+    let last = larger(stop, top - counts[0]);
+    if top <= last {
+        return;
+    }
+    steady_run(top, q, (top - last) as usize, heads, nexts);
+}
+
+// Visits a line along place 0, by what the table `leaps` has.
+fn line<'a>(
+    counts: &'a [u32; 5],
+    downs: &'a [u16; 20480],
+    leaps: &'a [u16; 4096],
+    way: u32,
+    q: usize,
+    top: u32,
+    stop: u32,
+    heads: &mut [u32],
+    nexts: &mut [u32],
+)
+    requires { ⌜ (Tables (length (now heads)) (now counts) (now downs)) × (Leaps way (length (now heads)) (now downs) (now leaps)) × (q < length (now heads)) × (BlockTop (now counts) 1 (length (now nexts)) top) ⌝ }
+    ensures { λ r. ⌜ Walks (now (counts .entry)) (now (downs .entry)) 1 q stop top (now (heads .entry)) (now (nexts .entry)) (now (heads .exit)) (now (nexts .exit)) ⌝ }
+{
+    if way == 1 {
+        falling_line(counts, downs, leaps, q, top, stop, heads, nexts);
+        return;
+    }
+    if way == 2 {
+        rising_line(counts, downs, leaps, q, top, stop, heads, nexts);
+        return;
+    }
+    if way == 3 {
+        steady_line(counts, downs, q, top, stop, heads, nexts);
+        return;
+    }
+    paired_line(counts, downs, leaps, q, top, stop, heads, nexts);
+}
+
 // Visits a block of level 2, line by line, and gives the tile below it.
 fn lines<'a>(
     counts: &'a [u32; 5],
     downs: &'a [u16; 20480],
-    twice: &'a [u16; 4096],
+    leaps: &'a [u16; 4096],
+    way: u32,
     q: usize,
     top: u32,
     stop: u32,
     heads: &mut [u32],
     nexts: &mut [u32],
 ) -> u32
-    requires { ⌜ (Tables (length (now heads)) (now counts) (now downs)) × (TwoSteps (length (now heads)) (now downs) (now twice)) × (q < length (now heads)) × (BlockTop (now counts) 2 (length (now nexts)) top) ⌝ }
+    requires { ⌜ (Tables (length (now heads)) (now counts) (now downs)) × (Leaps way (length (now heads)) (now downs) (now leaps)) × (q < length (now heads)) × (BlockTop (now counts) 2 (length (now nexts)) top) ⌝ }
     ensures { λ r. ⌜ (r ≡ top - blockSize (now (counts .entry)) 2) × (Walks (now (counts .entry)) (now (downs .entry)) 2 q stop top (now (heads .entry)) (now (nexts .entry)) (now (heads .exit)) (now (nexts .exit))) ⌝ }
 {
     let mut tile = top;
     let mut left = counts[1];
     let mut at = q;
     while 0 < left {
-        line(counts, downs, twice, at, tile, stop, heads, nexts);
+        line(counts, downs, leaps, way, at, tile, stop, heads, nexts);
         at = lower(downs, 1, at);
         tile = tile - counts[0];
         left = left - 1;
@@ -123,7 +296,8 @@ fn lines<'a>(
 fn walk<'a>(
     counts: &'a [u32; 5],
     downs: &'a [u16; 20480],
-    twice: &'a [u16; 4096],
+    leaps: &'a [u16; 4096],
+    way: u32,
     level: usize,
     q: usize,
     top: u32,
@@ -131,18 +305,18 @@ fn walk<'a>(
     heads: &mut [u32],
     nexts: &mut [u32],
 ) -> u32
-    requires { ⌜ (2 ≤ level) × (level ≤ 5) × (Tables (length (now heads)) (now counts) (now downs)) × (TwoSteps (length (now heads)) (now downs) (now twice)) × (q < length (now heads)) × (BlockTop (now counts) level (length (now nexts)) top) ⌝ }
+    requires { ⌜ (2 ≤ level) × (level ≤ 5) × (Tables (length (now heads)) (now counts) (now downs)) × (Leaps way (length (now heads)) (now downs) (now leaps)) × (q < length (now heads)) × (BlockTop (now counts) level (length (now nexts)) top) ⌝ }
     ensures { λ r. ⌜ (r ≡ top - blockSize (now (counts .entry)) level) × (Walks (now (counts .entry)) (now (downs .entry)) level q stop top (now (heads .entry)) (now (nexts .entry)) (now (heads .exit)) (now (nexts .exit))) ⌝ }
 {
     if level == 2 {
-        return lines(counts, downs, twice, q, top, stop, heads, nexts);
+        return lines(counts, downs, leaps, way, q, top, stop, heads, nexts);
     }
     let k = level - 1;
     let mut tile = top;
     let mut left = counts[k];
     let mut at = q;
     while 0 < left {
-        let below = walk(counts, downs, twice, k, at, tile, stop, heads, nexts);
+        let below = walk(counts, downs, leaps, way, k, at, tile, stop, heads, nexts);
         at = lower(downs, k, at);
         tile = below;
         left = left - 1;
@@ -180,14 +354,71 @@ fn table(plan: Plan, k: usize, c: usize, downs: &mut [u16; 20480])
     }
 }
 
-// Whether a dimension is cut, as a number.
-fn cut(b: u32) -> usize
-    ensures { λ r. ⌜ (r ≤ 1) × (r ≡ 0 → b ≡ 1) ⌝ }
+// Whether there are more than one, as a number.
+fn several(g: u32) -> usize
+    ensures { λ r. ⌜ (r ≤ 1) × (r ≡ 0 → g ≡ 1) ⌝ }
 {
-    if b == 1 {
+    if g == 1 {
         return 0;
     }
     1
+}
+
+// Whether g steps by a are one step by b, modulo m.
+fn same_step(g: u32, a: u32, b: u32, m: u32) -> bool
+    requires { ⌜ 1 ≤ m ⌝ }
+    ensures { λ r. ⌜ r ≡ eqb ((g * a) % m) b ⌝ }
+{
+    let far = (g as u64) * (a as u64);
+    far % (m as u64) == (b as u64)
+}
+
+// Whether dimension k goes on where g steps along dimension j end: one step along k is then the next of them. A dimension that is not cut has no step.
+fn continues(plan: Plan, g: u32, j: usize, k: usize) -> bool
+    requires { ⌜ (Shaped plan) × (j < plan .d) × (k < plan .d) ⌝ }
+    ensures { λ r. ⌜ (r ≡ true → Continues plan g j k) ⌝ }
+{
+    let d = plan.d;
+    let b = plan.cuts[k];
+    if b == 1 {
+        return true;
+    }
+    for i in 0..d {
+        let row = i * 5;
+        if !same_step(
+            g,
+            plan.matrix[row + j],
+            plan.matrix[row + k],
+            plan.moduli[i],
+        ) {
+            return false;
+        }
+    }
+    true
+}
+
+// Counts dimension k: in the last group, if it goes on there, or in a group of its own, which takes the place of a last group of one tile.
+fn join(
+    plan: Plan,
+    k: usize,
+    group: Group,
+    counts: &mut [u32; 5],
+    downs: &mut [u16; 20480],
+) -> Group
+    requires { ⌜ (Shaped plan) × (k < plan .d) × (Grouped plan k (group .at) (group .first) (now counts) (now downs)) ⌝ }
+    ensures { λ r. ⌜ Grouped plan (k + 1) (r .at) (r .first) (now (counts .exit)) (now (downs .exit)) ⌝ }
+{
+    let at = group.at;
+    let b = plan.cuts[k];
+    let g = counts[at];
+    if continues(plan, g, group.first, k) {
+        counts[at] = g * b;
+        return group;
+    }
+    let c = at + several(g);
+    table(plan, k, c, downs);
+    counts[c] = b;
+    Group { at: c, first: k }
 }
 
 // The counts of a plan, with their tables.
@@ -197,12 +428,11 @@ fn tables(plan: Plan, downs: &mut [u16; 20480]) -> [u32; 5]
 {
     let d = plan.d;
     let mut counts = [1; 5];
-    let mut c = 0;
-    for k in 0..d {
-        let b = plan.cuts[k];
-        table(plan, k, c, downs);
-        counts[c] = b;
-        c = c + cut(b);
+    table(plan, 0, 0, downs);
+    counts[0] = plan.cuts[0];
+    let mut group = Group { at: 0, first: 0 };
+    for k in 1..d {
+        group = join(plan, k, group, &mut counts, downs);
     }
     counts
 }
@@ -221,6 +451,82 @@ fn two_steps(p: u32, downs: &[u16; 20480], twice: &mut [u16; 4096])
     }
 }
 
+// One more than `run` where two numbers agree, and else 0.
+fn one_more(a: usize, b: usize, run: u16) -> u16
+    requires { ⌜ run < 65535 ⌝ }
+    ensures { λ r. ⌜ (1 ≤ r → (a ≡ b) × (r ≡ run + 1)) ⌝ }
+{
+    if a == b {
+        return run + 1;
+    }
+    0
+}
+
+// Fills the table of falling runs along place 0.
+fn falling_runs(p: u32, downs: &[u16; 20480], runs: &mut [u16; 4096])
+    requires { ⌜ (p ≤ 4096) × ((q : ℕ) → q < p → lower (now downs) 0 q < p) × (length (now runs) ≡ 4096) ⌝ }
+    ensures { λ r. ⌜ FallingRuns p (now (downs .entry)) (now (runs .exit)) ⌝ }
+{
+    let many = p as usize;
+    let mut run: u16 = 0;
+    let mut q = 0;
+    while q < many {
+        run = one_more(lower(downs, 0, q) + 1, q, run);
+        runs[q] = run;
+        q = q + 1;
+    }
+}
+
+// Fills the table of rising runs along place 0.
+fn rising_runs(p: u32, downs: &[u16; 20480], runs: &mut [u16; 4096])
+    requires { ⌜ (p ≤ 4096) × ((q : ℕ) → q < p → lower (now downs) 0 q < p) × (length (now runs) ≡ 4096) ⌝ }
+    ensures { λ r. ⌜ RisingRuns p (now (downs .entry)) (now (runs .exit)) ⌝ }
+{
+    let mut run: u16 = 0;
+    let mut q = p as usize;
+    while 0 < q {
+        q = q - 1;
+        run = one_more(lower(downs, 0, q), q + 1, run);
+        runs[q] = run;
+    }
+}
+
+// Whether every processor is its own neighbour along place 0.
+fn steady(p: u32, downs: &[u16; 20480]) -> bool
+    requires { ⌜ p ≤ 4096 ⌝ }
+    ensures { λ r. ⌜ (r ≡ true → SteadyRuns p (now (downs .entry))) ⌝ }
+{
+    let many = p as usize;
+    let mut ok = true;
+    let mut q = 0;
+    while q < many {
+        ok = ok & (lower(downs, 0, q) == q);
+        q = q + 1;
+    }
+    ok
+}
+
+// Fills the table of leaps along place 0, and says what it has: runs where they are long and the lines too, else two steps.
+fn leaps(p: u32, count: u32, downs: &[u16; 20480], table: &mut [u16; 4096]) -> u32
+    requires { ⌜ (1 ≤ p) × (p ≤ 4096) × ((q : ℕ) → q < p → lower (now downs) 0 q < p) × (length (now table) ≡ 4096) ⌝ }
+    ensures { λ r. ⌜ Leaps r p (now (downs .entry)) (now (table .exit)) ⌝ }
+{
+    if steady(p, downs) {
+        return 3;
+    }
+    let last = (p as usize) - 1;
+    falling_runs(p, downs, table);
+    if 32 <= smaller(place(table[last]), wide(count)) {
+        return 1;
+    }
+    rising_runs(p, downs, table);
+    if 32 <= smaller(place(table[0]), wide(count)) {
+        return 2;
+    }
+    two_steps(p, downs, table);
+    0
+}
+
 // Visits the tiles above `stop`, from the highest down.
 fn visit_above(plan: Plan, stop: u32, heads: &mut [u32], nexts: &mut [u32])
     requires { ⌜ (Shaped plan) × (stop ≤ tilesOf (layoutOf plan)) ⌝ }
@@ -229,13 +535,14 @@ fn visit_above(plan: Plan, stop: u32, heads: &mut [u32], nexts: &mut [u32])
 {
     let mut downs = [0; 20480];
     let counts = tables(plan, &mut downs);
-    let mut twice = [0; 4096];
-    two_steps(plan.p, &downs, &mut twice);
+    let mut table = [0; 4096];
+    let way = leaps(plan.p, counts[0], &downs, &mut table);
     let top = layout::tile_count(plan) as u32;
     walk(
         &counts,
         &downs,
-        &twice,
+        &table,
+        way,
         5,
         top_owner(plan),
         top,

@@ -1,4 +1,4 @@
-// Runs the grids of document 01 that are not starred, the examples beside its table, the slabs of document 02's request d, jobs of its requests f and g, probe lines, and figures of the timetable, on the calls. What it prints is held to the file stdout.
+// Runs the grids of document 01 that are not starred, the examples beside its table, the slabs of document 02's request d, jobs of its requests f and g, tile numbers of its request i, probe lines, and figures of the timetable, on the calls. What it prints is held to the file stdout.
 // Each function writes its lines into a lent list from a place on, and answers the place after them.
 ghost use mathlib.Core.Path.{_≡_};
 ghost use lib.ListN.{length};
@@ -10,6 +10,8 @@ use probes::Probed;
 use questions::Neighbour;
 use questions::Owner;
 use tiles::positions::Lookup;
+use tiles::positions::Position;
+use tiles::positions::TileNumber;
 use tiles::slabs::Elements;
 use tiles::slabs::SlabNumber;
 use timetable::Message;
@@ -79,6 +81,20 @@ fn put_position(out: &mut [u8], at: usize, plan: Plan, tile: u32) -> usize
     match lookup {
         Lookup::Found => put_line(out, at, b"position ", &coordinates),
         Lookup::Refused { number, place } => put_refused(out, at, number, place),
+    }
+}
+
+// The number of the tile at a position.
+fn put_number(out: &mut [u8], at: usize, plan: Plan, position: Position) -> usize
+    ensures { λ r. ⌜ length (now (out .exit)) ≡ length (now (out .entry)) ⌝ }
+{
+    let number = position.number(plan);
+    match number {
+        TileNumber::Tile(t) => {
+            let numbers = [t];
+            put_line(out, at, b"tile ", &numbers)
+        }
+        TileNumber::Refused { number, place } => put_refused(out, at, number, place),
     }
 }
 
@@ -215,6 +231,27 @@ fn put_squares(out: &mut [u8], at: usize) -> usize
     next = put_position(out, next, planned.plan, 16777216);
     next = put_position(out, next, planned.plan, 16777217);
     put_job(out, next, 4096, 2, &short, &ones)
+}
+
+// 6 processors on 9 9 9, cut 2 3 6: the tiles at 1 2 3 and at 0 0 5, which were 34 and 6 while the last dimension ran fastest, and the positions of 24 and of 31.
+fn put_tiles(out: &mut [u8], at: usize) -> usize
+    ensures { λ r. ⌜ length (now (out .exit)) ≡ length (now (out .entry)) ⌝ }
+{
+    let nines = [9u32, 9, 9];
+    let ones = [1u32, 1, 1];
+    let planned = planner::plan_job(6, 3, &nines, &ones, &ones);
+    let inner = Position {
+        d: 3,
+        at: [1, 2, 3, 0, 0],
+    };
+    let last = Position {
+        d: 3,
+        at: [0, 0, 5, 0, 0],
+    };
+    let mut next = put_number(out, at, planned.plan, inner);
+    next = put_number(out, next, planned.plan, last);
+    next = put_position(out, next, planned.plan, 24);
+    put_position(out, next, planned.plan, 31)
 }
 
 // Six dimensions, no processor and one too many.
@@ -502,6 +539,7 @@ fn put_probe_lines(out: &mut [u8], at: usize) -> usize
 fn main() {
     let mut out = [0u8; 4096];
     let mut n = put_squares(&mut out, 0);
+    n = put_tiles(&mut out, n);
     n = put_outside(&mut out, n);
     n = put_lists(&mut out, n);
     n = put_slabs(&mut out, n);

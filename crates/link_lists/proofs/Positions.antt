@@ -11,11 +11,10 @@ use lib.ListN.{length, getD, set, take, replicate}
 use lib.Seq.{take-at, take-append-le}
 use Rattle.multipartition.specs.Answers.{Answer, answered}
 use Rattle.multipartition.specs.Plans.{inShape}
-use Rattle.multipartition.specs.Tiles.{Inside, isInside, positionOf}
+use Rattle.multipartition.specs.Tiles.{Inside, isInside}
 use Rattle.multipartition.specs.Questions.{numberAnswer, positionAnswer, stepAnswer}
 use Rattle.multipartition.proofs.BothWays.{position-answered, step-answered}
-use Rattle.multipartition.proofs.MixedRadix.{length-digits}
-use Rattle.multipartition.proofs.Tiles.{inside-length, one-step-on-inside}
+use Rattle.multipartition.proofs.Tiles.{inside-length, length-position, one-step-on-inside}
 use Rattle.layout.specs.declared.Plan.{Plan}
 use Rattle.layout.specs.Plans.{layoutOf}
 use Rattle.layout.proofs.Places.{cuts-length}
@@ -103,11 +102,10 @@ module _ (plan : Plan) (xs : List ℕ) where
 
 -- an answered position has d coordinates, at most five
 pub position-few : (plan : Plan) (tile : ℕ) (xs : List ℕ) → positionAnswer (layoutOf plan) tile ≡ answered xs → length xs ≤ 5
-unfolding positionOf
 position-few plan tile xs e =
     let found = position-answered (layoutOf plan) tile xs .0 e in
     let s = shaped plan (found .0) in
-    omega (arith, ap length (found .2), length-digits (layoutOf plan .cuts) (tile - 1), cuts-length plan s, s .d-high)
+    omega (arith, ap length (found .2), length-position (layoutOf plan .cuts) tile, cuts-length plan s, s .d-high)
 
 -- so has a position one step on, and the one before it
 module _ (plan : Plan) (xs : List ℕ) (k : ℕ) (up : Bool) (next : Option (List ℕ)) (e : stepAnswer (layoutOf plan) xs k up ≡ answered next) where

@@ -85,8 +85,8 @@ fn tiles_both_ways() {
                 assert_eq!(moved.is_none(), position[k] == edge, "{plan:?}");
                 edges += u32::from(moved.is_none());
                 let Some(moved) = moved else { continue };
-                // The dimensions behind k run faster.
-                let worth: u32 = plan.cuts[k + 1..plan.dimensions()].iter().product();
+                // The dimensions before k run faster.
+                let worth: u32 = plan.cuts[..k].iter().product();
                 let next = if up == 1 { tile + worth } else { tile - worth };
                 assert_eq!(number(&list, &moved), next, "{plan:?}");
                 assert_eq!(at(&list, next), moved, "{plan:?}");
@@ -517,6 +517,34 @@ fn chain_lists() {
         seen.note(chain(&mut lists, &list, &heads, &nexts));
     }
     seen.check(&[0, 6, 9], 500);
+}
+
+/// The chains of plans made by hand in which any dimensions are cut and the others are not: all, some, one or none.
+#[test]
+fn chains_along_any_dimensions() {
+    let mut random = Random::new(17);
+    let mut lists = Lists::default();
+    let mut seen: BTreeMap<Vec<bool>, u64> = BTreeMap::new();
+    for _ in 0..30_000 {
+        let mut plan = made_by_hand(&mut random);
+        let d = plan.dimensions();
+        for cut in &mut plan.cuts[..d] {
+            if random.once_in(2) {
+                *cut = 1;
+            }
+        }
+        if plan.tiles() > ROOM as u128 {
+            continue;
+        }
+        let heads = any_numbers(&mut random, plan.p as usize);
+        let nexts = any_numbers(&mut random, plan.tiles() as usize);
+        assert_eq!(chain(&mut lists, &list_of(&plan), &heads, &nexts), 0);
+        let cut: Vec<bool> = plan.cuts[..d].iter().map(|&b| b > 1).collect();
+        *seen.entry(cut).or_default() += 1;
+    }
+    // Every choice of the cut ones among 2 to 5 dimensions.
+    assert_eq!(seen.len(), 4 + 8 + 16 + 32);
+    assert!(seen.values().all(|&count| count >= 20), "{seen:?}");
 }
 
 /// Probe lines of no element, of one, and of some, of which many fall or leave the dimension, and lists to lend that

@@ -501,9 +501,9 @@ fn answers_of_the_first_example() {
     assert_eq!((slab(&list, 3, 1, &mut two), two), (0, [4, 8]));
     assert_eq!((slab_of(&list, 3, 3, &mut one), one), (0, [0]));
     assert_eq!((slabs_of(&list, 3, &[3, 4], &mut two), two), (0, [0, 1]));
-    assert_eq!((tile_number(&list, &[1, 0, 1], &mut one), one), (0, [6]));
+    assert_eq!((tile_number(&list, &[0, 1, 1], &mut one), one), (0, [7]));
     let mut three = [77; 3];
-    assert_eq!((tile_position(&list, 6, &mut three), three), (0, [1, 0, 1]));
+    assert_eq!((tile_position(&list, 7, &mut three), three), (0, [0, 1, 1]));
     let mut four = [77; 4];
     assert_eq!(
         (step(&list, &[1, 0, 1], 2, 1, &mut four), four),
@@ -524,7 +524,7 @@ fn answers_of_the_first_example() {
     );
     let (mut heads, mut nexts) = ([77; 4], [77; 8]);
     assert_eq!(chains(&list, &mut heads, &mut nexts), 0);
-    assert_eq!((heads, nexts), ([1, 2, 4, 3], [8, 7, 6, 5, 0, 0, 0, 0]));
+    assert_eq!((heads, nexts), ([1, 4, 2, 3], [8, 7, 6, 5, 0, 0, 0, 0]));
 }
 
 /// "With p = 2 and thickness 3 both ways, 6 6 is cut 2 2", and other plans that a thickness moves.
@@ -578,7 +578,7 @@ fn answers_of_the_first_diagonal_plan() {
     expected[KIND] = 1;
     assert_eq!(list, expected);
     let mut one = [77];
-    for (tile, processor) in [0, 3, 1, 2, 2, 1, 3, 0].into_iter().enumerate() {
+    for (tile, processor) in [0, 2, 1, 3, 3, 1, 2, 0].into_iter().enumerate() {
         let mut position = [77; 3];
         assert_eq!(tile_position(&list, tile as u32 + 1, &mut position), 0);
         assert_eq!((owner(&list, &position, &mut one), one), (0, [processor]));
@@ -595,7 +595,7 @@ fn answers_of_the_first_diagonal_plan() {
     );
     let (mut heads, mut nexts) = ([77; 4], [77; 8]);
     assert_eq!(chains(&list, &mut heads, &mut nexts), 0);
-    assert_eq!((heads, nexts), ([1, 3, 4, 2], [8, 7, 6, 5, 0, 0, 0, 0]));
+    assert_eq!((heads, nexts), ([1, 3, 2, 4], [8, 7, 6, 5, 0, 0, 0, 0]));
 }
 
 #[test]

@@ -1,4 +1,5 @@
-//! Chains ("Tiles, slabs, chains"; document 02, e).
+//! Chains ("Tiles, slabs, chains"; document 02, e). "Lowest" and "next higher" mean the numbers of
+//! document 02, i.
 
 use crate::owners::owner_of;
 use crate::plan::Plan;
@@ -140,13 +141,40 @@ mod tests {
         for (tile, heads, nexts) in [
             (9, [0, 0, 0, 0], [7, 7, 7, 7, 7, 7, 7, 7]),
             (8, [8, 0, 0, 0], [7, 7, 7, 7, 7, 7, 7, 0]),
-            (5, [8, 7, 5, 6], [7, 7, 7, 7, 0, 0, 0, 0]),
-            (3, [8, 7, 4, 3], [7, 7, 6, 5, 0, 0, 0, 0]),
-            (1, [1, 2, 4, 3], [8, 7, 6, 5, 0, 0, 0, 0]),
+            (5, [8, 5, 7, 6], [7, 7, 7, 7, 0, 0, 0, 0]),
+            (3, [8, 4, 7, 3], [7, 7, 6, 5, 0, 0, 0, 0]),
+            (1, [1, 4, 2, 3], [8, 7, 6, 5, 0, 0, 0, 0]),
         ] {
             let stage = (tile, heads.to_vec(), nexts.to_vec());
             assert_eq!(stages[9 - tile as usize], stage);
         }
+    }
+
+    /// The two lists of a plan.
+    fn lists(plan: &Plan) -> (Vec<u32>, Vec<u32>) {
+        let mut lists = (vec![9; plan.p as usize], vec![9; plan.tiles() as usize]);
+        chains(plan, &mut lists.0, &mut lists.1).unwrap();
+        lists
+    }
+
+    /// "For 8 8 8 on 4 the chain heads become 1 4 2 3, and the nexts are 8 7 6 5 0 0 0 0 as before." The
+    /// former numbers had other heads for each of these grids, and for 6 on 9 9 9 other nexts.
+    #[test]
+    fn figures() {
+        let grid = |p, extents: [u32; 3]| plan_job(p, 3, &extents, &[1; 3], &[]).unwrap();
+        let (heads, nexts) = lists(&grid(4, [8; 3]));
+        assert_eq!(heads, [1, 4, 2, 3]);
+        assert_eq!(nexts, [8, 7, 6, 5, 0, 0, 0, 0]);
+        let (heads, nexts) = lists(&grid(6, [9; 3]));
+        assert_eq!(heads, [1, 6, 5, 4, 3, 2]);
+        assert_eq!(nexts[..12], [8, 9, 10, 11, 12, 7, 14, 15, 16, 17, 18, 13]);
+        assert_eq!(nexts[24..], [32, 33, 34, 35, 36, 31, 0, 0, 0, 0, 0, 0]);
+        let (heads, nexts) = lists(&grid(5, [4, 9, 9]));
+        assert_eq!(heads, [1, 5, 4, 3, 2]);
+        assert_eq!(nexts[..10], [7, 8, 9, 10, 6, 12, 13, 14, 15, 11]);
+        let (heads, nexts) = lists(&diagonal_job(3, 2, &[9; 2], &[1; 2], &[]).unwrap());
+        assert_eq!(heads, [1, 2, 3]);
+        assert_eq!(nexts, [5, 6, 4, 8, 9, 7, 0, 0, 0]);
     }
 
     #[test]

@@ -108,7 +108,7 @@ mod tests {
         (1..=plan.tiles() as u32).map(|tile| position_of(plan, tile))
     }
 
-    /// The owners of all tiles, the last dimension running fastest.
+    /// The owners of all tiles, the first dimension running fastest.
     fn owners(plan: &Plan) -> Vec<u32> {
         positions(plan)
             .map(|position| owner(plan, &position).unwrap())
@@ -130,7 +130,7 @@ mod tests {
             kind: 1,
             least: [1, 1, 0, 0, 0],
         };
-        assert_eq!(owners(&plan), [0, 2, 1, 1, 0, 2, 2, 1, 0]);
+        assert_eq!(owners(&plan), [0, 1, 2, 2, 0, 1, 1, 2, 0]);
         assert_eq!(grid(3, &[9, 9], &[1, 1]).as_ref(), Ok(&plan));
         let thicker = Plan {
             least: [2, 3, 0, 0, 0],
@@ -153,7 +153,7 @@ mod tests {
             kind: 1,
             least: [1, 1, 1, 0, 0],
         };
-        assert_eq!(owners(&plan), [0, 3, 1, 2, 2, 1, 3, 0]);
+        assert_eq!(owners(&plan), [0, 2, 1, 3, 3, 1, 2, 0]);
         assert_eq!(grid(4, &[8; 3], &[1; 3]), Ok(plan));
     }
 

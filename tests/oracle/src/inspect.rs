@@ -147,10 +147,9 @@ pub fn inspect(
 fn position(plan: &Printed, tile: u64) -> Vec<u64> {
     let mut left = tile;
     let mut position = vec![0; plan.d];
-    for k in (0..plan.d).rev() {
-        let b = u64::from(plan.cuts[k]);
-        position[k] = left % b;
-        left /= b;
+    for (i, &b) in position.iter_mut().zip(&plan.cuts) {
+        *i = left % u64::from(b);
+        left /= u64::from(b);
     }
     position
 }

@@ -1,4 +1,4 @@
-//! Document 01 with requests a to h of document 02, written down a second time in plain Rust, to
+//! Document 01 with requests a to i of document 02, written down a second time in plain Rust, to
 //! test the planner against.
 //!
 //! Everything here follows the definitions literally and prefers the slow and obvious way:

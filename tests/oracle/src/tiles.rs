@@ -1,4 +1,4 @@
-//! Tile numbers and positions ("Tiles, slabs, chains").
+//! Tile numbers and positions ("Tiles, slabs, chains"; document 02, i).
 
 use crate::plan::Plan;
 use crate::refusal::{self, Refusal};
@@ -10,10 +10,10 @@ pub fn number(plan: &Plan, position: &[u32]) -> Result<u32, Refusal> {
     Ok(number_at(plan, position))
 }
 
-/// "Tile number = 1 + (((i1*b2 + i2)*b3 + i3) ...), the last dimension running fastest."
+/// "A tile's number is now 1 + i1 + b1*(i2 + b2*(i3 + ...))."
 pub fn number_at(plan: &Plan, position: &[u32]) -> u32 {
     let steps = plan.cuts.iter().zip(position);
-    1 + steps.fold(0, |sum, (b, i)| sum * b + i)
+    1 + steps.rev().fold(0, |inner, (b, i)| i + b * inner)
 }
 
 /// The position one step on, or `None` for "edge", if that step leaves the grid.
@@ -50,13 +50,13 @@ pub fn position(plan: &Plan, tile: u32) -> Result<Vec<u32>, Refusal> {
     Ok(position_of(plan, tile))
 }
 
-/// The position of a tile of the grid.
+/// "And the position of a number follows": that of a tile of the grid.
 pub fn position_of(plan: &Plan, tile: u32) -> Vec<u32> {
     let mut left = tile - 1;
     let mut position = vec![0; plan.dimensions()];
-    for k in (0..plan.dimensions()).rev() {
-        position[k] = left % plan.cuts[k];
-        left /= plan.cuts[k];
+    for (i, b) in position.iter_mut().zip(plan.cuts) {
+        *i = left % b;
+        left /= b;
     }
     position
 }
@@ -64,21 +64,93 @@ pub fn position_of(plan: &Plan, tile: u32) -> Vec<u32> {
 #[cfg(test)]
 mod tests {
     use super::*;
-    use crate::plan::plan_job;
+    use crate::owners::owner;
+    use crate::plan::{padded, plan_job};
 
+    /// The plan of a lone processor with these cuts.
+    fn cut(cuts: &[u32]) -> Plan {
+        let ones = vec![1; cuts.len()];
+        let mut plan = plan_job(1, cuts.len() as u32, cuts, &ones, &[]).unwrap();
+        plan.cuts = padded(cuts);
+        plan
+    }
+
+    /// Every tile of grids with and without uncut dimensions, "with the first axis fastest".
     #[test]
     fn numbers_and_positions_are_inverse() {
-        let plan = plan_job(6, 3, &[9; 3], &[1; 3], &[]).unwrap();
-        let mut expected = 1;
-        for i in 0..2 {
-            for j in 0..3 {
-                for k in 0..6 {
-                    assert_eq!(number(&plan, &[i, j, k]), Ok(expected));
-                    assert_eq!(position(&plan, expected), Ok(vec![i, j, k]));
-                    expected += 1;
+        for cuts in [
+            &[2, 3][..],
+            &[5, 1],
+            &[1, 5],
+            &[1, 1],
+            &[2, 3, 6],
+            &[4, 1, 7],
+            &[1, 5, 3],
+            &[5, 2, 4, 3],
+            &[1, 4, 1, 3],
+            &[2, 3, 4, 5, 6],
+            &[3, 1, 7, 1, 2],
+            &[1, 1, 2, 5, 1],
+        ] {
+            let plan = cut(cuts);
+            // Uncut past d.
+            let b = |k: usize| cuts.get(k - 1).copied().unwrap_or(1);
+            let mut expected = 1;
+            for i5 in 0..b(5) {
+                for i4 in 0..b(4) {
+                    for i3 in 0..b(3) {
+                        for i2 in 0..b(2) {
+                            for i1 in 0..b(1) {
+                                let here = &[i1, i2, i3, i4, i5][..cuts.len()];
+                                assert_eq!(number(&plan, here), Ok(expected));
+                                assert_eq!(position(&plan, expected), Ok(here.to_vec()));
+                                expected += 1;
+                            }
+                        }
+                    }
                 }
             }
+            assert_eq!(u128::from(expected), plan.tiles() + 1);
         }
+    }
+
+    #[test]
+    fn figures() {
+        let plan = plan_job(6, 3, &[9; 3], &[1; 3], &[]).unwrap();
+        for (tile, at) in [(2, [1, 0, 0]), (24, [1, 2, 3]), (31, [0, 0, 5])] {
+            assert_eq!(number(&plan, &at), Ok(tile));
+            assert_eq!(position(&plan, tile), Ok(at.to_vec()));
+        }
+        // The largest grids: the last tile, and the last of the first row.
+        for (cuts, row) in [
+            (&[4096, 4096][..], 4096),
+            (&[1, 4096, 4096], 1),
+            (&[2, 2, 1, 2048, 2048], 2),
+        ] {
+            let plan = cut(cuts);
+            let mut at: Vec<u32> = cuts.iter().map(|b| b - 1).collect();
+            assert_eq!(number(&plan, &at), Ok(16_777_216));
+            assert_eq!(position(&plan, 16_777_216), Ok(at.clone()));
+            at[1..].fill(0);
+            assert_eq!(number(&plan, &at), Ok(row));
+        }
+    }
+
+    /// "Owners don't move, since they come from positions": those of 6 on 9 9 9 are by row 3, 5 4 1, as
+    /// with the former numbers 1 + (i1*b2 + i2)*b3 + i3.
+    #[test]
+    fn owners_do_not_move() {
+        let plan = plan_job(6, 3, &[9; 3], &[1; 3], &[]).unwrap();
+        let former = |i: &[u32]| 1 + (i[0] * 3 + i[1]) * 6 + i[2];
+        for tile in 1..=36 {
+            let at = position(&plan, tile).unwrap();
+            let processor = (5 * at[0] + 4 * at[1] + at[2]) % 6;
+            assert_eq!(owner(&plan, &at), Ok(processor));
+            assert_eq!(former(&at) == tile, tile == 1 || tile == 36);
+        }
+        let at = [1, 2, 3];
+        assert_eq!((former(&at), number(&plan, &at)), (34, Ok(24)));
+        assert_eq!(owner(&plan, &at), Ok(4));
     }
 
     #[test]

@@ -5,7 +5,7 @@ use native.Mathlib.Omega.{arith}
 use borrow.Author.Needs.{needs}
 use borrow.Fn.Kinds.{In}
 use borrow.Fn.PlainCycle.{Measures, is, falls, and}
-use Rattle.chains.specs.Walks.{TwoSteps, BlockTop}
+use Rattle.chains.specs.Walks.{Leaps}
 use Rattle.chains.proofs.Walking.{Across, across-start, across-ready, across-step, across-done}
 use Rattle.chains.proofs.walk.Reads as walk
 use Rattle.chains.proofs.walk.Kinds as walk-kinds
@@ -16,7 +16,7 @@ use Rattle.chains.proofs.+walk.{statement}
 use Rattle.chains.proofs.+walk.Tie.{close}
 
 abbrev μ-walk : Measures 3 walk-kinds.ps ℕ
-μ-walk κs a = a .1 .1 .1 .0
+μ-walk κs a = a .1 .1 .1 .1 .0
 
 -- what is given at the measure t, and what a call asks below t
 abbrev walk-at : ℕ → In 3 walk-kinds.ps
@@ -37,11 +37,11 @@ calls t = (
 )
 
 abbrev Inv-loop : walk-lts.InvT-loop
-Inv-loop counts downs twice level q top stop heads₀ nexts₀ k tile₀ left₀ at₀ heads nexts tile left at =
+Inv-loop counts downs leaps way level q top stop heads₀ nexts₀ k tile₀ left₀ at₀ heads nexts tile left at =
     Across counts downs k q stop top tile left at heads₀ nexts₀ heads nexts
 
 abbrev μ-loop : walk-lts.MeasureT-loop
-μ-loop counts downs twice level q top stop heads₀ nexts₀ k tile₀ left₀ at₀ heads nexts tile left at = left
+μ-loop counts downs leaps way level q top stop heads₀ nexts₀ k tile₀ left₀ at₀ heads nexts tile left at = left
 
 module _ (t : ℕ) where
   lines-requires : walk-lts.Need-lines-requires (calls t) (walk-at t) walk.Post Inv-loop μ-loop
@@ -87,7 +87,7 @@ module _ (t : ℕ) where
           omega (arith, p .0, c .before .before .before .before .before .if1 .left),
           omega (arith, p .1),
           ready .0,
-          subst⁻¹ (λ (n : ℕ). TwoSteps n (s .args .downs .now) (s .args .twice .now)) (l .inv .heads-kept) (p .3),
+          subst⁻¹ (λ (n : ℕ). Leaps (s .args .way) n (s .args .downs .now) (s .args .leaps .now)) (l .inv .heads-kept) (p .3),
           ready .1,
           ready .2,
         ),

@@ -3,17 +3,17 @@ use mathlib.Core.Path.{sym, ap, subst⁻¹}
 use Prim.Native.Nat.{ℕ, _-_}
 use native.Mathlib.Omega.{arith}
 use borrow.Author.Needs.{needs}
-use Rattle.chains.specs.Walks.{TwoSteps}
+use Rattle.chains.specs.Walks.{Leaps}
 use Rattle.chains.proofs.Walking.{Across, across-start, across-ready, across-room, across-step, across-done, line-size}
 use Rattle.chains.proofs.lines.Statement.{statement}
 use Rattle.chains.proofs.lines.Tie as tie
 
 abbrev Inv-loop : tie.InvT-loop
-Inv-loop counts downs twice q top stop heads₀ nexts₀ tile₀ left₀ at₀ heads nexts tile left at =
+Inv-loop counts downs leaps way q top stop heads₀ nexts₀ tile₀ left₀ at₀ heads nexts tile left at =
     Across counts downs 1 q stop top tile left at heads₀ nexts₀ heads nexts
 
 abbrev μ-loop : tie.MeasureT-loop
-μ-loop counts downs twice q top stop heads₀ nexts₀ tile₀ left₀ at₀ heads nexts tile left at = left
+μ-loop counts downs leaps way q top stop heads₀ nexts₀ tile₀ left₀ at₀ heads nexts tile left at = left
 
 element-copy-out-left : tie.Need-element-copy-out-left Inv-loop μ-loop
 element-copy-out-left c = search needs
@@ -29,7 +29,7 @@ line-requires c κs =
     let l = c .before .before .before .loop in
     let low = c .before .before .loop-test .taken in
     let ready = across-ready (s .args .counts .now) (s .args .downs .now) 1 (omega arith) (s .args .q) (s .args .stop) (s .args .top) (s .args .heads .now) (s .args .nexts .now) (s .pre .0) (l .tile) (l .left) (l .at) (l .heads) (l .nexts) (l .inv) low in
-    (ready .0, subst⁻¹ (λ (p : ℕ). TwoSteps p (s .args .downs .now) (s .args .twice .now)) (l .inv .heads-kept) (s .pre .1), ready .1, ready .2)
+    (ready .0, subst⁻¹ (λ (p : ℕ). Leaps (s .args .way) p (s .args .downs .now) (s .args .leaps .now)) (l .inv .heads-kept) (s .pre .1), ready .1, ready .2)
 
 lower-requires : tie.Need-lower-requires Inv-loop μ-loop
 lower-requires c κs =

@@ -51,7 +51,7 @@ loop-again c =
       length-set (l .twice) (l .q) _ ∙ l .inv .0,
       omega (arith, inside),
       places-more (λ j x. x ≡ lower (s .args .downs .now) 0 (lower (s .args .downs .now) 0 j)) (l .twice) (l .q) _ (omega (arith, l .inv .0, s .pre .0, inside)) (l .inv .2)
-      (ap (λ (i : ℕ). getD (s .args .downs .now) i 0) (sym (first _ _ (sym (c .before .lower .ensures))))),
+          (ap (λ (i : ℕ). getD (s .args .downs .now) i 0) (sym (first _ _ (sym (c .before .lower .ensures))))),
     )
 
 returns : tie.Need-returns Inv-loop μ-loop

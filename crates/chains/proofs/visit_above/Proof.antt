@@ -13,7 +13,7 @@ use Rattle.layout.specs.Plans.{layoutOf}
 use Rattle.layout.specs.declared.Plan.{Plan}
 use Rattle.layout.specs.Shaped.{Shaped}
 use Rattle.chains.specs.Stages.{Visited}
-use Rattle.chains.specs.Walks.{blockSize, Tables, TwoSteps, Led, Walks}
+use Rattle.chains.specs.Walks.{blockSize, Tables, Leaps, Led, Walks}
 use Rattle.chains.proofs.visit_above.Statement.{statement}
 use Rattle.chains.proofs.visit_above.Tie as tie
 
@@ -29,10 +29,13 @@ walked counts downs heads nexts heads' nexts' own n p q stop top long many top-i
 tables-requires : tie.Need-tables-requires
 tables-requires c κs = search needs
 
-two-steps-requires : tie.Need-two-steps-requires
-two-steps-requires c κs =
+array-read-leaps : tie.Need-array-read-leaps
+array-read-leaps c = search needs
+
+leaps-requires : tie.Need-leaps-requires
+leaps-requires c κs =
     let s = c .before .before .before .before .before .before in
-    (s .pre .0 .0 .p-high, λ q l. c .before .before .tables .ensures .tables .below 0 q (omega arith) l, refl)
+    (s .pre .0 .0 .p-low, s .pre .0 .0 .p-high, λ q l. c .before .before .tables .ensures .tables .below 0 q (omega arith) l, refl)
 
 tile-count-requires : tie.Need-tile-count-requires
 tile-count-requires c κs = search needs
@@ -52,7 +55,7 @@ walk-requires c κs =
       omega arith,
       omega arith,
       subst⁻¹ (λ (n : ℕ). Tables n (c .before .before .before .before .before .before .before .before .before .before .tables .result) (c .before .before .before .before .before .before .before .before .before .before .tables .last .1 .0)) many (counted .tables),
-      subst⁻¹ (λ (n : ℕ). TwoSteps n (c .before .before .before .before .before .before .before .before .before .before .tables .last .1 .0) (c .before .before .before .before .before .before .before .two-steps .last .1 .1 .0)) many (c .before .before .before .before .before .before .before .two-steps .ensures),
+      subst⁻¹ (λ (n : ℕ). Leaps (c .before .before .before .before .before .before .before .leaps .result) n (c .before .before .before .before .before .before .before .before .before .before .tables .last .1 .0) (c .before .before .before .before .before .before .before .leaps .last .1 .1 .1 .0)) many (c .before .before .before .before .before .before .before .leaps .ensures),
       omega (arith, many, c .before .before .top-owner .ensures .1),
       record {
         block = 0;
@@ -78,7 +81,8 @@ visit-above-spec =
     tie.close
     (tie.spec
     tables-requires
-    two-steps-requires
+    array-read-leaps
+    leaps-requires
     tile-count-requires
     cast-top
     top-owner-requires
