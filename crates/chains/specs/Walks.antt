@@ -57,18 +57,12 @@ pub record RisingRuns (p : ℕ) (downs runs : List ℕ) : Type 0 where
   pub long : length runs ≡ 4096
   pub at : (q : ℕ) → q < p → Rises p downs q (getD runs q 0)
 
--- each of p processors is its own downward neighbour along place 0
-pub record SteadyRuns (p : ℕ) (downs : List ℕ) : Type 0 where
-  pub at : (q : ℕ) → q < p → lower downs 0 q ≡ q
-
--- What the table `leaps` has for a line: two steps along place 0 (way 0), falling runs (1), rising runs (2), or nothing, where one processor owns
--- the whole line (3).
+-- what the table `leaps` has for a line: two steps along place 0 (way 0), falling runs (1) or rising runs (2)
 pub record Leaps (way p : ℕ) (downs leaps : List ℕ) : Type 0 where
   pub two : way ≡ 0 → TwoSteps p downs leaps
   pub falling : way ≡ 1 → FallingRuns p downs leaps
   pub rising : way ≡ 2 → RisingRuns p downs leaps
-  pub steady : way ≡ 3 → SteadyRuns p downs
-  pub known : way ≤ 3
+  pub known : way ≤ 2
 
 -- counts, and tables that lead from processors to processors
 pub record Tables (p : ℕ) (counts downs : List ℕ) : Type 0 where

@@ -13,7 +13,7 @@ ghost use Rattle.layout.specs.Plans.{layoutOf};
 ghost use Rattle.layout.specs.Shaped.{Shaped};
 ghost use Rattle.chains.specs.Told.{Answers};
 ghost use Rattle.chains.specs.Stages.{Visited, Onward};
-ghost use Rattle.chains.specs.Walks.{blockSize, BlockTop, lower, TwoSteps, FallingRuns, RisingRuns, SteadyRuns, Leaps, Tables, Run, Walks, Tabled, Counted, Continues, Grouped};
+ghost use Rattle.chains.specs.Walks.{blockSize, BlockTop, lower, TwoSteps, FallingRuns, RisingRuns, Leaps, Tables, Run, Walks, Tabled, Counted, Continues, Grouped};
 
 pub enum Chained {
     Done,
@@ -200,41 +200,6 @@ fn rising_line<'a>(
     }
 }
 
-// Visits `count` tiles, the highest of them `top`, that all belong to q.
-fn steady_run(top: u32, q: usize, count: usize, heads: &mut [u32], nexts: &mut [u32])
-    requires { ⌜ (count ≤ top) × (top ≤ length (now nexts)) × (q < 4096) × (q < length (now heads)) ⌝ }
-    ensures { λ r. ⌜ Run (λ j. q) top count (now (heads .entry)) (now (nexts .entry)) (now (heads .exit)) (now (nexts .exit)) ⌝ }
-{
-    let below = (top as usize) - count;
-    let mut tile = top;
-    let mut i = count;
-    while 0 < i {
-        i = i - 1;
-        visit(tile, below + i, q, heads, nexts);
-        tile = tile - 1;
-    }
-}
-
-// Visits a line along place 0 that belongs to one processor.
-fn steady_line<'a>(
-    counts: &'a [u32; 5],
-    downs: &'a [u16; 20480],
-    q: usize,
-    top: u32,
-    stop: u32,
-    heads: &mut [u32],
-    nexts: &mut [u32],
-)
-    requires { ⌜ (Tables (length (now heads)) (now counts) (now downs)) × (SteadyRuns (length (now heads)) (now downs)) × (q < length (now heads)) × (BlockTop (now counts) 1 (length (now nexts)) top) ⌝ }
-    ensures { λ r. ⌜ Walks (now (counts .entry)) (now (downs .entry)) 1 q stop top (now (heads .entry)) (now (nexts .entry)) (now (heads .exit)) (now (nexts .exit)) ⌝ }
-{
-    let last = larger(stop, top - counts[0]);
-    if top <= last {
-        return;
-    }
-    steady_run(top, q, (top - last) as usize, heads, nexts);
-}
-
 // Visits a line along place 0, by what the table `leaps` has.
 fn line<'a>(
     counts: &'a [u32; 5],
@@ -256,10 +221,6 @@ fn line<'a>(
     }
     if way == 2 {
         rising_line(counts, downs, leaps, q, top, stop, heads, nexts);
-        return;
-    }
-    if way == 3 {
-        steady_line(counts, downs, q, top, stop, heads, nexts);
         return;
     }
     paired_line(counts, downs, leaps, q, top, stop, heads, nexts);
@@ -491,29 +452,11 @@ fn rising_runs(p: u32, downs: &[u16; 20480], runs: &mut [u16; 4096])
     }
 }
 
-// Whether every processor is its own neighbour along place 0.
-fn steady(p: u32, downs: &[u16; 20480]) -> bool
-    requires { ⌜ p ≤ 4096 ⌝ }
-    ensures { λ r. ⌜ (r ≡ true → SteadyRuns p (now (downs .entry))) ⌝ }
-{
-    let many = p as usize;
-    let mut ok = true;
-    let mut q = 0;
-    while q < many {
-        ok = ok & (lower(downs, 0, q) == q);
-        q = q + 1;
-    }
-    ok
-}
-
 // Fills the table of leaps along place 0, and says what it has: runs where they are long and the lines too, else two steps.
 fn leaps(p: u32, count: u32, downs: &[u16; 20480], table: &mut [u16; 4096]) -> u32
     requires { ⌜ (1 ≤ p) × (p ≤ 4096) × ((q : ℕ) → q < p → lower (now downs) 0 q < p) × (length (now table) ≡ 4096) ⌝ }
     ensures { λ r. ⌜ Leaps r p (now (downs .entry)) (now (table .exit)) ⌝ }
 {
-    if steady(p, downs) {
-        return 3;
-    }
     let last = (p as usize) - 1;
     falling_runs(p, downs, table);
     if 32 <= smaller(place(table[last]), wide(count)) {

@@ -4,12 +4,6 @@ use borrow.Author.Needs.{needs}
 use Rattle.chains.proofs.leaps.Statement.{statement}
 use Rattle.chains.proofs.leaps.Tie as tie
 
-steady-requires : tie.Need-steady-requires
-steady-requires c κs = search needs
-
-returns : tie.Need-returns
-returns c = record { two = λ e. absurd (omega arith); falling = λ e. absurd (omega arith); rising = λ e. absurd (omega arith); steady = λ e. c .before .steady .ensures (c .if1 .taken); known = omega arith }
-
 sub-last : tie.Need-sub-last
 sub-last c = search needs
 
@@ -31,11 +25,11 @@ wide-requires c κs = search needs
 smaller-requires : tie.Need-smaller-requires
 smaller-requires c κs = search needs
 
-returns-2 : tie.Need-returns-2
-returns-2 c = record { two = λ e. absurd (omega arith); falling = λ e. c .before .before .before .before .before .falling-runs .ensures; rising = λ e. absurd (omega arith); steady = λ e. absurd (omega arith); known = omega arith }
+returns : tie.Need-returns
+returns c = record { two = λ e. absurd (omega arith); falling = λ e. c .before .before .before .before .before .falling-runs .ensures; rising = λ e. absurd (omega arith); known = omega arith }
 
 rising-runs-requires : tie.Need-rising-runs-requires
-rising-runs-requires c κs = let s = c .before .before .before .before .before .before .before .before .before .before in (s .pre .1, s .pre .2, c .before .before .before .before .before .before .falling-runs .ensures .long)
+rising-runs-requires c κs = let s = c .before .before .before .before .before .before .before .before in (s .pre .1, s .pre .2, c .before .before .before .before .before .before .falling-runs .ensures .long)
 
 element-copy-out-place-2 : tie.Need-element-copy-out-place-2
 element-copy-out-place-2 c = search needs
@@ -49,21 +43,19 @@ wide-requires-2 c κs = search needs
 smaller-requires-2 : tie.Need-smaller-requires-2
 smaller-requires-2 c κs = search needs
 
-returns-3 : tie.Need-returns-3
-returns-3 c = record { two = λ e. absurd (omega arith); falling = λ e. absurd (omega arith); rising = λ e. c .before .before .before .before .before .rising-runs .ensures; steady = λ e. absurd (omega arith); known = omega arith }
+returns-2 : tie.Need-returns-2
+returns-2 c = record { two = λ e. absurd (omega arith); falling = λ e. absurd (omega arith); rising = λ e. c .before .before .before .before .before .rising-runs .ensures; known = omega arith }
 
 two-steps-requires : tie.Need-two-steps-requires
-two-steps-requires c κs = let s = c .before .before .before .before .before .before .before .before .before .before .before .before .before .before .before .before .before in (s .pre .1, s .pre .2, c .before .before .before .before .before .before .rising-runs .ensures .long)
+two-steps-requires c κs = let s = c .before .before .before .before .before .before .before .before .before .before .before .before .before .before .before in (s .pre .1, s .pre .2, c .before .before .before .before .before .before .rising-runs .ensures .long)
 
-returns-4 : tie.Need-returns-4
-returns-4 c = record { two = λ e. c .two-steps .ensures; falling = λ e. absurd (omega arith); rising = λ e. absurd (omega arith); steady = λ e. absurd (omega arith); known = omega arith }
+returns-3 : tie.Need-returns-3
+returns-3 c = record { two = λ e. c .two-steps .ensures; falling = λ e. absurd (omega arith); rising = λ e. absurd (omega arith); known = omega arith }
 
 pub leaps-spec : {M : Type 1} → statement M
 leaps-spec =
     tie.close
     (tie.spec
-    steady-requires
-    returns
     sub-last
     falling-runs-requires
     mul-place
@@ -71,12 +63,12 @@ leaps-spec =
     place-requires
     wide-requires
     smaller-requires
-    returns-2
+    returns
     rising-runs-requires
     element-copy-out-place-2
     place-requires-2
     wide-requires-2
     smaller-requires-2
-    returns-3
+    returns-2
     two-steps-requires
-    returns-4)
+    returns-3)

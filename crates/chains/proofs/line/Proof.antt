@@ -29,8 +29,11 @@ same-length-4 c = search needs
 returns-2 : tie.Need-returns-2
 returns-2 c = search needs
 
-steady-line-requires : tie.Need-steady-line-requires
-steady-line-requires c κs = let s = c .before .before .before .before .before .before .before in (s .pre .0, s .pre .1 .steady (c .before .before .if3 .taken), s .pre .2, s .pre .3)
+paired-line-requires : tie.Need-paired-line-requires
+paired-line-requires c κs =
+    let s = c .before .before .before .before .before .before in
+    let none : s .args .way ≡ 0 = omega (arith, s .pre .1 .known, c .before .before .before .if1 .left, c .before .before .if2 .left) in
+    (s .pre .0, s .pre .1 .two none, s .pre .2, s .pre .3)
 
 same-length-5 : tie.Need-same-length-5
 same-length-5 c = search needs
@@ -40,21 +43,6 @@ same-length-6 c = search needs
 
 returns-3 : tie.Need-returns-3
 returns-3 c = search needs
-
-paired-line-requires : tie.Need-paired-line-requires
-paired-line-requires c κs =
-    let s = c .before .before .before .before .before .before .before in
-    let none : s .args .way ≡ 0 = omega (arith, s .pre .1 .known, c .before .before .before .before .if1 .left, c .before .before .before .if2 .left, c .before .before .if3 .left) in
-    (s .pre .0, s .pre .1 .two none, s .pre .2, s .pre .3)
-
-same-length-7 : tie.Need-same-length-7
-same-length-7 c = search needs
-
-same-length-8 : tie.Need-same-length-8
-same-length-8 c = search needs
-
-returns-4 : tie.Need-returns-4
-returns-4 c = search needs
 
 pub line-spec : {M : Type 1} → statement M
 line-spec =
@@ -68,11 +56,7 @@ line-spec =
     same-length-3
     same-length-4
     returns-2
-    steady-line-requires
+    paired-line-requires
     same-length-5
     same-length-6
-    returns-3
-    paired-line-requires
-    same-length-7
-    same-length-8
-    returns-4)
+    returns-3)
