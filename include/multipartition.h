@@ -33,10 +33,10 @@
  *
  * What a caller must see to, since C does not check it: every pointer is not null, also for a list of length 0, points to as many numbers as
  * its length says, no answer list shares a place with another list of the call, and the thread has the stack that the call needs, which is
- * measured and not proved (MULTIPARTITION_PLAN_STACK and the like below). Where slabs begin is not in a plan list, and earlier archives had other
- * edges for the same list and, among equal costs, other cuts for the same job, and knew no least thicknesses, which the two planning calls now take:
- * all programs of a run are compiled with this header and link one archive, and data stored by slab or by tile are read by the edges and the plan
- * that they were written with.
+ * measured and not proved (MULTIPARTITION_PLAN_STACK and the like below). Where slabs begin and how tiles are numbered is not in a plan list, and
+ * earlier archives had other edges and other tile numbers (the last dimension ran fastest) for the same list and, among equal costs, other cuts for
+ * the same job, and knew no least thicknesses, which the two planning calls now take: all programs of a run are compiled with this header and link
+ * one archive, and data stored by slab or by tile are read by the edges, the numbering and the plan that they were written with.
  */
 #ifndef MULTIPARTITION_H
 #define MULTIPARTITION_H
@@ -119,7 +119,7 @@ enum {
  * process, in which the dynamic linker looks up memcpy and memset on the same stack. */
 enum {
     MULTIPARTITION_PLAN_STACK = 106496,
-    MULTIPARTITION_CHAINS_STACK = 12288,
+    MULTIPARTITION_CHAINS_STACK = 65536,
     MULTIPARTITION_TIMETABLE_STACK = 49152,
     MULTIPARTITION_QUESTION_STACK = 8192 /* all other calls, multipartition_diagonal too */
 };
@@ -214,7 +214,8 @@ uint64_t multipartition_slabs_of(const uint32_t *plan, size_t plan_length,
                                  const uint32_t *elements, size_t elements_length,
                                  uint32_t *slabs, size_t slabs_length);
 
-/* Which number the tile at a position has; the last dimension runs fastest. Refused with 6, 8, 9. */
+/* Which number the tile at a position has. The first dimension runs fastest: with cuts b1 b2 b3 .. the tile at i1 i2 i3 .. has the number
+ * 1 + i1 + b1 * (i2 + b2 * (i3 + ..)). Refused with 6, 8, 9. */
 uint64_t multipartition_tile_number(const uint32_t *plan, size_t plan_length,
                                     const uint32_t *position, size_t position_length,
                                     uint32_t *answer, size_t answer_length);
