@@ -27,13 +27,6 @@ unfolding Positive
 positive-of-places [] h = tt
 positive-of-places (b ∷ bases) h = (h 0 (omega arith), positive-of-places bases (λ i l. h (suc i) (omega arith)))
 
-pub positive-drop : (bases : List ℕ) (k : ℕ) → Positive bases → Positive (drop k bases)
-unfolding Positive
-positive-drop [] zero h = tt
-positive-drop [] (suc k) h = tt
-positive-drop (b ∷ bases) zero h = h
-positive-drop (b ∷ bases) (suc k) h = positive-drop bases k (h .1)
-
 -- the product of the bases from k on, one base apart
 pub product-drop : (bases : List ℕ) (k : ℕ) → k < length bases → product (drop k bases) ≡ getD bases k 0 * product (drop (suc k) bases)
 product-drop [] k l = absurd (omega arith)
@@ -145,21 +138,6 @@ number-ext n (b ∷ bases) c d h =
     let same : first c ≡ first d = first-at c ∙ h 0 (omega arith) ∙ sym (first-at d) in
     rw same
     (number-ext (n * b + first d) bases (rest c) (rest d) (λ i l. rest-at c i ∙ h (suc i) (omega arith) ∙ sym (rest-at d i)))
-
--- another digit at place k counts as often as all later bases multiply to
-pub number-set : (bases digits : List ℕ) (k x : ℕ) → k < length bases → k < length digits
-    → numberFrom 0 bases (set digits k x) + getD digits k 0 * product (drop (suc k) bases)
-    ≡ numberFrom 0 bases digits + x * product (drop (suc k) bases)
-number-set [] digits k x l m = absurd (omega arith)
-number-set (b ∷ bases) [] k x l m = absurd (omega arith)
-number-set (b ∷ bases) (c ∷ digits) zero x l m = omega (arith, number-first b bases (x ∷ digits), number-first b bases (c ∷ digits))
-number-set (b ∷ bases) (c ∷ digits) (suc k) x l m =
-    omega (
-      arith,
-      number-first b bases (c ∷ set digits k x),
-      number-first b bases (c ∷ digits),
-      number-set bases digits k x (omega arith) (omega arith),
-    )
 
 -- ---- the first digit fastest
 

@@ -67,13 +67,8 @@ module _ (own : ℕ → ℕ) (n : ℕ) where
       length-append (take t lent) (listOf (suc t) (n - t) (nextHigher own n))
       ∙ rw (length-take-le t lent (omega (arith, long)), length-listOf (suc t) (n - t) (nextHigher own n)) (omega arith)
 
-  -- of what was lent, the unvisited places count
-  nexts-by : (lent lent' : List ℕ) (t : ℕ) → take t lent ≡ take t lent' → nextsAt own n lent t ≡ nextsAt own n lent' t
-  unfolding nextsAt
-  nexts-by lent lent' t e = ap (λ (xs : List ℕ). xs ++ listOf (suc t) (n - t) (nextHigher own n)) e
-
-  -- and they are as lent
-  unvisited : (lent : List ℕ) (t u : ℕ) → length lent ≡ n → u ≤ t → t ≤ n → take u (nextsAt own n lent t) ≡ take u lent
+  -- the places of tiles not yet visited are as lent
+  pub unvisited : (lent : List ℕ) (t u : ℕ) → length lent ≡ n → u ≤ t → t ≤ n → take u (nextsAt own n lent t) ≡ take u lent
   unfolding nextsAt
   unvisited lent t u long l within =
       take-append-le u (take t lent) (listOf (suc t) (n - t) (nextHigher own n)) (omega (arith, length-take-le t lent (omega (arith, long))))
@@ -130,7 +125,7 @@ pub stage-answer-end : (plan : Layout) (heads : ℕ) (lent : List ℕ) → stage
 unfolding stageAnswer chainsAnswer
 stage-answer-end plan heads lent = let end = stage-end (tileOwner plan) (tilesOf plan) (plan .p) lent in rw (end .0, end .1)
 
--- ---- what was lent
+-- ---- the lengths of the lists
 
 module _ {own : ℕ → ℕ} {n p t : ℕ} {lent heads nexts : List ℕ} (s : Stage own n p t lent heads nexts) where
   pub heads-length : length heads ≡ p
@@ -138,26 +133,3 @@ module _ {own : ℕ → ℕ} {n p t : ℕ} {lent heads nexts : List ℕ} (s : St
 
   pub nexts-length : length nexts ≡ n
   nexts-length = ap length (s .nexts-are) ∙ length-nexts-at own n lent t (s .lent-length) (s .within)
-
-  as-lent : (u : ℕ) → u ≤ t → take u nexts ≡ take u lent
-  as-lent u l = ap (take u) (s .nexts-are) ∙ unvisited own n lent t u (s .lent-length) l (s .within)
-
-  -- the stage with what the second list holds now as lent
-  pub stage-afresh : Stage own n p t nexts heads nexts
-  stage-afresh =
-      record {
-        within = s .within;
-        lent-length = nexts-length;
-        heads-are = s .heads-are;
-        nexts-are = s .nexts-are ∙ nexts-by own n lent nexts t (sym (as-lent t (omega arith)));
-      }
-
-  -- what is lent at a later stage is what was lent at this one
-  pub stage-onward : {u : ℕ} {heads' nexts' : List ℕ} → u ≤ t → Stage own n p u nexts heads' nexts' → Stage own n p u lent heads' nexts'
-  stage-onward l later =
-      record {
-        within = later .within;
-        lent-length = s .lent-length;
-        heads-are = later .heads-are;
-        nexts-are = later .nexts-are ∙ nexts-by own n nexts lent _ (as-lent _ l);
-      }
