@@ -1,4 +1,5 @@
--- Chains (document 01, "Tiles, slabs, chains"): tiles 1 to n, and `own`, which gives a tile's owner.
+-- Chains (document 01, "Tiles, slabs, chains"): tiles 1 to n, and `own`, which gives a tile's owner. Document 02, request i: "'Lowest' and 'next
+-- higher' in the chains mean the new numbers."
 use mathlib.Core.Path.{_≡_}
 use mathlib.Core.Bool.{cond}
 use mathlib.Core.List.{List, [], _∷_, _++_}

@@ -1,5 +1,6 @@
 -- The starred grids of document 01, "Grids to try", with the figures that its table names. Document 02, request a: "Every cost in document 01 drops by
--- the sum of its weights". Of request e, five stages of the chains of 4 on 8 8 8. Of request f, "4 processors in three roomy dimensions" with "all
+-- the sum of its weights". Of request i, "For 8 8 8 on 4 the chain heads become 1 4 2 3, and the nexts are 8 7 6 5 0 0 0 0 as before"; of
+-- request e, five stages of these chains. Of request f, "4 processors in three roomy dimensions" with "all
 -- weights zero": "That job becomes 2 2 2." Of request g, "With p = 2 and thickness 3 both ways, 6 6 is cut 2 2 and 6 5 gives 5", and its refusals.
 use mathlib.Core.Bool.{true}
 use mathlib.Core.List.{List, [], _∷_, map}
