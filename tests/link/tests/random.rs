@@ -547,6 +547,139 @@ fn chains_along_any_dimensions() {
     assert!(seen.values().all(|&count| count >= 20), "{seen:?}");
 }
 
+/// A plan made by hand in which the owner's number, along the first cut dimension, mostly falls or rises by one from tile
+/// to tile, and in which later cut dimensions mostly continue those before: such a column of the matrix is the column of
+/// the first dimension of its group times the product of the group's cuts. Some of these columns are spoiled.
+fn of_runs(random: &mut Random) -> Plan {
+    let mut plan = made_by_hand(random);
+    let d = plan.dimensions();
+    // Up to three moduli above 1, in any rows. A run ends at the last of them, which often is less than p.
+    let last = random.between(0, d as u64 - 1) as usize;
+    let most = *random.pick(&[50, 100, 200]);
+    plan.moduli[..d].fill(1);
+    plan.moduli[last] = random.between(2, most) as u32;
+    plan.p = plan.moduli[last];
+    for _ in 0..2 {
+        let row = random.between(0, last as u64) as usize;
+        if plan.moduli[row] == 1 {
+            let most = (200 / u64::from(plan.p)).min(*random.pick(&[3, 200]));
+            plan.moduli[row] = random.between(1, most) as u32;
+            plan.p *= plan.moduli[row];
+        }
+    }
+    let moduli = plan.moduli;
+    let rows: Vec<usize> = (0..d).filter(|&i| moduli[i] > 1).collect();
+    let below = |random: &mut Random, limit: u32| random.between(0, u64::from(limit) - 1) as u32;
+
+    let any = [(); 2].map(|()| random.between(0, d as u64 - 1) as usize);
+    let first = any[0].min(any[1]);
+    let mut left = ROOM as u64;
+    for k in 0..d {
+        let most = *random.pick(&[4, 9, 30]);
+        let cut = match k {
+            _ if k < first => 1,
+            _ if k > first => random.between(1, most.min(left)),
+            _ if random.once_in(6) => random.between(2, 5),
+            _ => random.between(30, 300),
+        };
+        left /= cut;
+        plan.cuts[k] = cut as u32;
+        plan.least[k] = random.between(1, 1_000) as u32;
+        plan.extents[k] = plan.cuts[k] * (plan.least[k] + below(random, 1_000));
+        for i in 0..d {
+            plan.matrix[i][k] = below(random, moduli[i]);
+        }
+    }
+
+    plan.matrix[..d].iter_mut().for_each(|row| row[first] = 0);
+    let small = random.between(2, 9) as u32;
+    plan.matrix[last][first] = *random.pick(&[1, moduli[last] - 1, small]) % moduli[last];
+    if random.once_in(6) {
+        let row = *random.pick(&rows);
+        plan.matrix[row][first] = below(random, moduli[row]);
+    }
+    let (mut start, mut product, mut before) = (first, plan.cuts[first], plan.cuts[first]);
+    let later: Vec<usize> = (first + 1..d).filter(|&k| plan.cuts[k] > 1).collect();
+    for k in later {
+        if random.once_in(3) {
+            (start, product) = (k, 1);
+        } else {
+            let spoiled = random.between(0, 11);
+            let times = if spoiled == 0 { before } else { product };
+            for &i in &rows {
+                plan.matrix[i][k] = plan.matrix[i][start] * times % moduli[i];
+            }
+            if spoiled == 1 {
+                let row = *random.pick(&rows);
+                plan.matrix[row][k] = (plan.matrix[row][k] + 1) % moduli[row];
+            }
+        }
+        before = plan.cuts[k];
+        product *= before;
+    }
+    plan
+}
+
+/// Whether a plan has: long falling runs along its first cut dimension, long rising ones, long ones that end at a modulus
+/// below p; two dimensions joined from that one on, three or more; later ones joined; a column that continues its group
+/// but for one row; one that would if the group had no other cut than its last.
+fn runs_and_joined(plan: &Plan) -> [bool; 8] {
+    let d = plan.dimensions();
+    let rows: Vec<usize> = (0..d).filter(|&i| plan.moduli[i] > 1).collect();
+    let cut: Vec<usize> = (0..d).filter(|&k| plan.cuts[k] > 1).collect();
+    let (&last, others) = rows.split_last().expect("p is not 1");
+    let (modulus, entry) = (plan.moduli[last], plan.matrix[last][cut[0]]);
+    let long = modulus.min(plan.cuts[cut[0]]) >= 33;
+    let runs = long && others.iter().all(|&i| plan.matrix[i][cut[0]] == 0);
+    let (mut one_row, mut last_cut) = (false, false);
+    let mut groups = vec![vec![cut[0]]];
+    for &k in &cut[1..] {
+        let group = groups.last_mut().expect("a group");
+        let wrong = |times: u32| {
+            let continued = |i: usize| plan.matrix[i][group[0]] * times % plan.moduli[i];
+            let differs = |&&i: &&usize| plan.matrix[i][k] != continued(i);
+            rows.iter().filter(differs).count()
+        };
+        let cuts: Vec<u32> = group.iter().map(|&j| plan.cuts[j]).collect();
+        let wrong_rows = wrong(cuts.iter().product());
+        one_row |= wrong_rows == 1 && rows.len() > 1;
+        last_cut |= wrong_rows > 0 && wrong(cuts[cuts.len() - 1]) == 0;
+        match wrong_rows {
+            0 => group.push(k),
+            _ => groups.push(vec![k]),
+        }
+    }
+    [
+        runs && entry == modulus - 1,
+        runs && entry == 1,
+        runs && (entry == 1 || entry == modulus - 1) && modulus < plan.p,
+        groups[0].len() == 2,
+        groups[0].len() > 2,
+        groups[1..].iter().any(|group| group.len() > 1),
+        one_row,
+        last_cut,
+    ]
+}
+
+/// The chains of plans whose owners fall or rise by one in long runs, and of plans with dimensions that can be walked as
+/// one line, or nearly.
+#[test]
+fn chains_of_runs_and_joined_dimensions() {
+    let mut random = Random::new(18);
+    let mut lists = Lists::default();
+    let mut seen = [0; 8];
+    for _ in 0..6_000 {
+        let plan = of_runs(&mut random);
+        let heads = any_numbers(&mut random, plan.p as usize);
+        let nexts = any_numbers(&mut random, plan.tiles() as usize);
+        assert_eq!(chain(&mut lists, &list_of(&plan), &heads, &nexts), 0);
+        for (count, has) in seen.iter_mut().zip(runs_and_joined(&plan)) {
+            *count += u64::from(has);
+        }
+    }
+    assert!(seen.iter().all(|&count| count >= 100), "{seen:?}");
+}
+
 /// Probe lines of no element, of one, and of some, of which many fall or leave the dimension, and lists to lend that
 /// are shorter, as long and longer.
 #[test]
