@@ -334,7 +334,7 @@ fn same_step(g: u32, a: u32, b: u32, m: u32) -> bool
     far % (m as u64) == (b as u64)
 }
 
-// Whether dimension k goes on where g steps along dimension j end: one step along k is then the next of them. A dimension that is not cut has no step.
+// Whether one step along dimension k is g steps along dimension j. A dimension that is not cut has no step, and goes on with any.
 fn continues(plan: Plan, g: u32, j: usize, k: usize) -> bool
     requires { ⌜ (Shaped plan) × (j < plan .d) × (k < plan .d) ⌝ }
     ensures { λ r. ⌜ (r ≡ true → Continues plan g j k) ⌝ }
