@@ -78,6 +78,10 @@ enum {
 
 /* The places of the other answer lists. */
 enum {
+    MULTIPARTITION_SMALLEST_REFUSED_FOUND = 0, /* 1, or 0 if the job is accepted and there is nothing to show */
+    MULTIPARTITION_SMALLEST_REFUSED = 1,       /* the divisor of p, or 0 if there is nothing to show */
+    MULTIPARTITION_SMALLEST_REFUSED_LENGTH = 2,
+
     MULTIPARTITION_OWNER = 0, /* the processor */
     MULTIPARTITION_OWNER_LENGTH = 1,
 
@@ -118,7 +122,7 @@ enum {
 /* The bytes of stack that must be left where a call is made, on x86-64: measured, with a quarter or more to spare, also for the first call of a
  * process, in which the dynamic linker looks up memcpy and memset on the same stack. */
 enum {
-    MULTIPARTITION_PLAN_STACK = 106496,
+    MULTIPARTITION_PLAN_STACK = 106496, /* multipartition_smallest_refused too */
     MULTIPARTITION_CHAINS_STACK = 65536,
     MULTIPARTITION_TIMETABLE_STACK = 49152,
     MULTIPARTITION_QUESTION_STACK = 8192 /* all other calls, multipartition_diagonal too */
@@ -162,6 +166,16 @@ uint64_t multipartition_plan(uint32_t processors, uint32_t dimensions,
                              const uint32_t *weights, size_t weights_length,
                              const uint32_t *least, size_t least_length,
                              uint32_t *plan, size_t plan_length);
+
+/* How far down to go: for a job that multipartition_plan refuses with 5, the smallest divisor of p for which the same job is refused with 5. It may be
+ * 1, where no slab is as thick as it must be, and p itself. Every smaller divisor of p is accepted, and every divisor of p that is a multiple of it is
+ * refused with 5 too. For an accepted job there is nothing to show. The arguments are those of multipartition_plan. Refused with 1, 2, 3, 4, 13,
+ * then 9. */
+uint64_t multipartition_smallest_refused(uint32_t processors, uint32_t dimensions,
+                                         const uint32_t *extents, size_t extents_length,
+                                         const uint32_t *weights, size_t weights_length,
+                                         const uint32_t *least, size_t least_length,
+                                         uint32_t *answer, size_t answer_length);
 
 /* Plans a job with the diagonal layout. For d = 2 there are p cuts each way, and the tile at i1 i2 belongs to (i1 - i2) modulo p. For d = 3 and
  * p = s * s there are s cuts each way, and the tile at i1 i2 i3 belongs to ((i1 - i3) modulo s) * s + ((i2 - i3) modulo s). Here i counts from 0,

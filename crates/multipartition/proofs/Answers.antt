@@ -19,6 +19,11 @@ FirstFails [] number place = ⊥
 FirstFails (c ∷ checks) number place =
     ((c .fails ≡ true) × (c .number ≡ number) × (c .place ≡ place)) ⊎ ((c .fails ≡ false) × FirstFails checks number place)
 
+-- no check has this number
+abbrev pub NoneHas : ℕ → List Check → Type 0
+NoneHas number [] = Unit {0}
+NoneHas number (c ∷ checks) = (c .number ≡ number → ⊥) × NoneHas number checks
+
 -- numbers from 1 to 99, and places up to `most`
 abbrev pub Small : {A : Type 0} → ℕ → Answer A → Type 0
 Small most (answered a) = Unit {0}
@@ -50,6 +55,16 @@ module _ {A : Type 0} where
   pub checked-answered : (checks : List Check) (answer : Answer A) (a : A)
       → (checked checks answer ≡ answered a) ↔ (AllPass checks × (answer ≡ answered a))
   checked-answered checks answer a = (answered-passed checks answer a, λ h. checked-passed checks answer (h .0) ∙ h .1)
+
+  -- a refusal by a number that no check has comes from the answer behind them
+  pub checked-refused-behind : (checks : List Check) (answer : Answer A) (number place : ℕ) → NoneHas number checks
+      → checked checks answer ≡ refused number place → AllPass checks × (answer ≡ refused number place)
+  checked-refused-behind [] answer number place others = λ e. (tt, e)
+  checked-refused-behind (c ∷ checks) answer number place others =
+      by-cond (λ (z : Answer A). z ≡ refused number place → ((c .fails ≡ false) × AllPass checks) × (answer ≡ refused number place))
+      (c .fails) (refused (c .number) (c .place)) (checked checks answer)
+      (λ f e. let same : c .number ≡ number = cc in absurd (others .0 same))
+      (λ f e. let later = checked-refused-behind checks answer number place (others .1) e in ((f, later .0), later .1))
 
   pub checked-small : (most : ℕ) (checks : List Check) (answer : Answer A) → AllSmall most checks → Small most answer → Small most (checked checks answer)
   checked-small most [] answer hs h = h

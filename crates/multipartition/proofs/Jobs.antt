@@ -14,7 +14,7 @@ use Rattle.multipartition.specs.Answers.{answered, refused}
 use Rattle.multipartition.specs.Cuts.{Fits, Even}
 use Rattle.multipartition.specs.Plans.{Job, Layout, leastOf, jobWith, layoutWith, between, inShape}
 use Rattle.multipartition.specs.Jobs.{Passed, PlanFor, firstOutside, firstZero, lengthsCheck, jobChecks, cheapestFor, planWith, planAnswer}
-use Rattle.multipartition.proofs.Answers.{AllPass, Small, checked-passed, checked-answered, checked-small}
+use Rattle.multipartition.proofs.Answers.{AllPass, Small, checked-passed, checked-answered, checked-refused-behind, checked-small}
 use Rattle.multipartition.proofs.Chosen.{none-chosen, chosen-fits, chosen-even}
 use Rattle.multipartition.proofs.Plans.{layout-in-shape}
 use Rattle.multipartition.proofs.Tests.{or-false, leb-iff, between-true-iff}
@@ -122,6 +122,23 @@ module _ (job : Job) where
           go : (o : Option (List ℕ)) → cheapestFor job ≡ o → planWith job o ≡ refused 5 0
           go none f = refl
           go (some u) f = absurd (h u (chosen-fits job passed u f) (chosen-even job passed u f))
+
+  -- a job that passes is answered with a plan or refused with 5
+  pub accepted-or-five : Passed job → ((plan : Layout) × (planAnswer job ≡ answered plan)) ⊎ (planAnswer job ≡ refused 5 0)
+  unfolding planWith
+  accepted-or-five passed = go (cheapestFor job) (plan-of-passed passed)
+    where
+      go : (o : Option (List ℕ)) → planAnswer job ≡ planWith job o → ((plan : Layout) × (planAnswer job ≡ answered plan)) ⊎ (planAnswer job ≡ refused 5 0)
+      go none e = inr e
+      go (some cuts) e = inl (layoutWith job cuts, e)
+
+  -- a job that is refused with 5 passes
+  pub passed-of-five : (place : ℕ) → planAnswer job ≡ refused 5 place → Passed job
+  unfolding planAnswer
+  passed-of-five place e =
+      job-passes-iff .0
+      (checked-refused-behind (jobChecks job) (planWith job (cheapestFor job)) 5 place
+      ((λ q. omega arith), ((λ q. omega arith), ((λ q. omega arith), ((λ q. omega arith), ((λ q. omega arith), tt))))) e .0)
 
   -- a refusal has a number from 1 on, and one of two digits; its place is 0 or that of an extent or a thickness
   pub plan-small : (most : ℕ) → firstOutside (job .extents) ≤ most → firstZero (job .least) ≤ most → Small most (planAnswer job)

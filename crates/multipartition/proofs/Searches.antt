@@ -6,6 +6,7 @@ use mathlib.Core.List.{List, [], _∷_}
 use Prim.Native.Nat.{ℕ, zero, suc, _+_, _≤_, _<_}
 use native.Mathlib.Nat.{not-suc-le-zero, zero-lt-suc, le-of-suc-le-suc, le-refl, eq-or-lt-of-le}
 use native.Mathlib.Numerals.{add-one}
+use native.Mathlib.Decide.{decLt}
 use native.Mathlib.Omega.{arith}
 use lib.ListN.{length, getD, drop, drop-of-length-le}
 use lib.Seq.{drop-cons}
@@ -38,17 +39,45 @@ first-such-passes test from (suc count) l = go (test from) refl l (λ h. first-s
     go true e h later = e
     go false e h later = later (omega arith)
 
--- one that passes is found, if no other does
+-- none below what is found passes
+pub first-such-below : (test : ℕ → Bool) (from count i : ℕ) → from ≤ i → i < firstSuch test from count → test i ≡ false
+unfolding firstSuch
+first-such-below test from zero i low high = absurd (omega arith)
+first-such-below test from (suc count) i low high = go (test from) refl high (λ l h. first-such-below test (suc from) count i l h)
+  where
+    go : (t : Bool) → test from ≡ t → i < cond t from (firstSuch test (suc from) count)
+        → (suc from ≤ i → i < firstSuch test (suc from) count → test i ≡ false) → test i ≡ false
+    go true e h later = absurd (omega arith)
+    go false e h later = ⊎-elim (λ (q : from ≡ i). sym (ap test q) ∙ e) (λ l. later l h) (eq-or-lt-of-le low)
+
+-- what is found is not above one that passes
+pub first-such-le : (test : ℕ → Bool) (from count r : ℕ) → from ≤ r → test r ≡ true → firstSuch test from count ≤ r
+first-such-le test from count r low passes = go (decLt r (firstSuch test from count))
+  where
+    go : Dec (r < firstSuch test from count) → firstSuch test from count ≤ r
+    go (yes l) = absurd (false-not-true (sym (first-such-below test from count r low l) ∙ passes))
+    go (no q) = omega arith
+
+-- one that passes is found, if none below it does
+pub first-such-is : (test : ℕ → Bool) (from count r : ℕ) → from ≤ r → r < from + count → test r ≡ true → ((i : ℕ) → from ≤ i → i < r → test i ≡ false)
+    → firstSuch test from count ≡ r
+first-such-is test from count r low high passes below = go (decLt (firstSuch test from count) r)
+  where
+    go : Dec (firstSuch test from count < r) → firstSuch test from count ≡ r
+    go (yes l) =
+        absurd
+        (false-not-true
+        (sym (below (firstSuch test from count) (first-such-low test from count) l) ∙ first-such-passes test from count (omega arith)))
+    go (no q) = omega (arith, first-such-le test from count r low passes)
+
+-- so is one that passes, if no other does
 pub first-such-only : (test : ℕ → Bool) (from count r : ℕ) → ((i : ℕ) → test i ≡ true → i ≡ r) → from ≤ r → r < from + count → test r ≡ true
     → firstSuch test from count ≡ r
-unfolding firstSuch
-first-such-only test from zero r only low high e = absurd (omega arith)
-first-such-only test from (suc count) r only low high e = go (test from) refl (λ l. first-such-only test (suc from) count r only l (omega arith) e)
+first-such-only test from count r only low high passes = first-such-is test from count r low high passes (λ i l h. none i h (test i) refl)
   where
-    go : (t : Bool) → test from ≡ t → (suc from ≤ r → firstSuch test (suc from) count ≡ r) → cond t from (firstSuch test (suc from) count) ≡ r
-    go true f later = only from f
-    go false f later =
-        ⊎-elim (λ (q : from ≡ r). absurd (false-not-true (sym f ∙ ap test q ∙ e))) (λ l. later l) (eq-or-lt-of-le low)
+    none : (i : ℕ) → i < r → (t : Bool) → test i ≡ t → t ≡ false
+    none i h true e = absurd (omega (arith, only i e))
+    none i h false e = refl
 
 -- ---- the first of a list that fails
 

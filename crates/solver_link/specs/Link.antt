@@ -11,6 +11,7 @@ use Rattle.multipartition.specs.Jobs.{planAnswer}
 use Rattle.multipartition.specs.Questions.{ownerAnswer, neighbourAnswer, slabAnswer, slabOfAnswer, numberAnswer, positionAnswer, stepAnswer, chainsAnswer}
 use Rattle.layout.specs.Plans.{layoutOf, planOf}
 use Rattle.planner.specs.declared.Planned.{Planned}
+use Rattle.refused_share.specs.Shares.{shareAnswer}
 use Rattle.diagonal.specs.Diagonal.{diagonalAnswer}
 use Rattle.hypercube.specs.Hypercube.{hypercubeAnswer}
 use Rattle.probes.specs.Probes.{probesAnswer}
@@ -39,9 +40,19 @@ plannedListed places planned =
 abbrev pub ownerListed : ℕ → Answer ℕ → Answer (List ℕ)
 ownerListed places asked = andThen asked (λ q. into places (q ∷ []))
 
+-- 1 and what was found, or 0 and 0 for none: "no neighbour", or "nothing to show"
+abbrev pub foundNumbers : Option ℕ → List ℕ
+foundNumbers none = 0 ∷ 0 ∷ []
+foundNumbers (some x) = 1 ∷ x ∷ []
+
 -- planning, with a list of least thicknesses that may be empty (document 02, request g)
 unfoldable pub planLink : ℕ → ℕ → List ℕ → List ℕ → List ℕ → ℕ → Answer (List ℕ)
 planLink p d extents weights least places = planListed places (planAnswer (jobWith p d extents weights least))
+
+-- the smallest divisor of p for which the same job is refused with 5 (document 02, request j)
+unfoldable pub smallestRefusedLink : ℕ → ℕ → List ℕ → List ℕ → List ℕ → ℕ → Answer (List ℕ)
+smallestRefusedLink p d extents weights least places =
+    andThen (shareAnswer (jobWith p d extents weights least)) (λ found. into places (foundNumbers found))
 
 -- a diagonal plan (document 02, request c), likewise
 unfoldable pub diagonalLink : ℕ → ℕ → List ℕ → List ℕ → List ℕ → ℕ → Answer (List ℕ)
@@ -55,16 +66,11 @@ hypercubeOwnerLink p position places = ownerListed places (hypercubeAnswer p pos
 unfoldable pub ownerLink : List ℕ → List ℕ → ℕ → Answer (List ℕ)
 ownerLink list position places = checked (planListCheck list ∷ []) (ownerListed places (ownerAnswer (layoutOf (planIn list)) position))
 
--- 1 and the processor, or 0 and 0 for "no neighbour"
-abbrev pub neighbourNumbers : Option ℕ → List ℕ
-neighbourNumbers none = 0 ∷ 0 ∷ []
-neighbourNumbers (some q) = 1 ∷ q ∷ []
-
 -- the neighbour of a processor; a direction other than 0 is up
 unfoldable pub neighbourLink : List ℕ → ℕ → ℕ → ℕ → ℕ → Answer (List ℕ)
 neighbourLink list q k up places =
     checked (planListCheck list ∷ [])
-    (andThen (neighbourAnswer (layoutOf (planIn list)) q k (not (eqb up 0))) (λ found. into places (neighbourNumbers found)))
+    (andThen (neighbourAnswer (layoutOf (planIn list)) q k (not (eqb up 0))) (λ found. into places (foundNumbers found)))
 
 -- a slab: its first element and the element after its last
 unfoldable pub slabLink : List ℕ → ℕ → ℕ → ℕ → Answer (List ℕ)

@@ -5,6 +5,7 @@ use planner::Planned;
 use probes::Probed;
 use questions::Neighbour;
 use questions::Owner;
+use refused_share::RefusedShare;
 use tiles::positions;
 use tiles::positions::Lookup;
 use tiles::positions::Position;
@@ -18,7 +19,7 @@ ghost use mathlib.Core.Path.{_≡_};
 ghost use Prim.Native.Nat.{_≤_, min};
 ghost use lib.ListN.{length};
 ghost use Rattle.link_lists.specs.Lists.{Linked};
-ghost use Rattle.solver_link.specs.Link.{plannedListed, planLink, diagonalLink, hypercubeOwnerLink, ownerLink, neighbourLink, slabLink, slabOfLink, slabsOfLink, tileNumberLink, tilePositionLink, stepLink, timetableLink, chainsLink};
+ghost use Rattle.solver_link.specs.Link.{plannedListed, planLink, smallestRefusedLink, diagonalLink, hypercubeOwnerLink, ownerLink, neighbourLink, slabLink, slabOfLink, slabsOfLink, tileNumberLink, tilePositionLink, stepLink, timetableLink, chainsLink};
 
 // What a planning call answered: the answer list gets the plan list.
 fn put_planned(planned: Planned, list: &mut [u32]) -> u64
@@ -46,6 +47,33 @@ pub extern "C" fn multipartition_plan(
 {
     let planned = planner::plan_job(processors, dimensions as usize, extents, weights, least);
     put_planned(planned, plan)
+}
+
+// The smallest divisor of the processor count for which the same job is refused with 5, of a job refused with 5: the answer list gets 1 and the
+// divisor, or 0 and 0 for nothing to show.
+#[no_mangle]
+pub extern "C" fn multipartition_smallest_refused(
+    processors: u32,
+    dimensions: u32,
+    extents: &[u32],
+    weights: &[u32],
+    least: &[u32],
+    answer: &mut [u32],
+) -> u64
+    ensures { λ r. ⌜ Linked (smallestRefusedLink processors dimensions (now (extents .entry)) (now (weights .entry)) (now (least .entry)) (length (now (answer .entry)))) (now (answer .entry)) r (now (answer .exit)) ⌝ }
+{
+    let share = refused_share::smallest_refused(
+        processors,
+        dimensions as usize,
+        extents,
+        weights,
+        least,
+    );
+    match share {
+        RefusedShare::Divisor(x) => link_lists::put_two(answer, 1, x),
+        RefusedShare::Nothing => link_lists::put_two(answer, 0, 0),
+        RefusedShare::Refused { number, place } => link_lists::joined(number, place),
+    }
 }
 
 // Plans a job with the diagonal layout, likewise.
