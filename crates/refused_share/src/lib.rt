@@ -31,7 +31,8 @@ fn smallest(p: u32, d: usize, extents: &[u32], weights: &[u32], least: &[u32]) -
 {
     let found = divisors(p);
     let of = found.of;
-    for k in 1..found.count {
+    let count = found.count;
+    for k in 1..count {
         let x = of[k - 1];
         if is_five(x, d, extents, weights, least) {
             return x;
@@ -60,5 +61,6 @@ pub fn smallest_refused(
             place: planned.place,
         };
     }
-    RefusedShare::Divisor(smallest(p, d, extents, weights, least))
+    let x = smallest(p, d, extents, weights, least);
+    RefusedShare::Divisor(x)
 }

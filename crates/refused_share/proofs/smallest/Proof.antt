@@ -20,11 +20,11 @@ one-more Q k low before here i l =
     ⊎-elim (λ (e : suc i ≡ k). subst Q (omega arith) here) (λ h. before i h) (eq-or-lt-of-le (omega arith))
 
 abbrev Inv-loop : tie.InvT-loop
-Inv-loop p d extents weights least of k₀ k-end k =
+Inv-loop p d extents weights least of count k₀ k =
     (1 ≤ k) × ((i : ℕ) → suc i < k → isFive (planAnswer (jobWith (getD of i 0) d extents weights least)) ≡ false)
 
 abbrev μ-loop : tie.MeasureT-loop
-μ-loop p d extents weights least of k₀ k-end k = k-end - k
+μ-loop p d extents weights least of count k₀ k = count - k
 
 divisors-requires : tie.Need-divisors-requires Inv-loop μ-loop
 divisors-requires c κs = search needs
