@@ -122,8 +122,8 @@ enum {
 /* The bytes of stack that must be left where a call is made, on x86-64: measured, with a quarter or more to spare, also for the first call of a
  * process, in which the dynamic linker looks up memcpy and memset on the same stack. */
 enum {
-    MULTIPARTITION_PLAN_STACK = 106496, /* multipartition_smallest_refused too */
-    MULTIPARTITION_CHAINS_STACK = 65536,
+    MULTIPARTITION_PLAN_STACK = 114688, /* multipartition_smallest_refused too */
+    MULTIPARTITION_CHAINS_STACK = 73728,
     MULTIPARTITION_TIMETABLE_STACK = 49152,
     MULTIPARTITION_QUESTION_STACK = 8192 /* all other calls, multipartition_diagonal too */
 };
