@@ -9,7 +9,7 @@
 
 /* Each call once more: a header that declares another type for one does not compile. */
 typedef uint64_t planning(uint32_t, uint32_t, const uint32_t *, size_t, const uint32_t *, size_t, const uint32_t *, size_t, uint32_t *, size_t);
-planning multipartition_plan, multipartition_diagonal;
+planning multipartition_plan, multipartition_smallest_refused, multipartition_diagonal;
 uint64_t multipartition_owner(const uint32_t *, size_t, const uint32_t *, size_t, uint32_t *, size_t);
 uint64_t multipartition_hypercube_owner(uint32_t, const uint32_t *, size_t, uint32_t *, size_t);
 uint64_t multipartition_neighbour(const uint32_t *, size_t, uint32_t, uint32_t, uint32_t, uint32_t *, size_t);
@@ -226,6 +226,41 @@ static void least_thicknesses(void)
     }
 }
 
+/* The smallest divisor of p for which a job is refused with 5, or 0 where there is nothing to show. Places past the answer are kept. Where all least
+ * thicknesses are 1, an empty list of them says the same. */
+static void share_places(void)
+{
+    static const struct {
+        uint32_t p, d, extents[D], least[D], divisor;
+    } figures[] = {{12, 2, {5, 5}, {1, 1}, 6},
+                   {12, 2, {9, 9}, {1, 1}, 12},
+                   {12, 2, {12, 12}, {1, 1}, 0},
+                   {4096, 2, {4096, 4095}, {1, 1}, 4096},
+                   {30, 3, {5, 5, 5}, {1, 1, 1}, 6},
+                   {60, 3, {6, 6, 6}, {1, 1, 1}, 10},
+                   {3360, 3, {20, 20, 20}, {1, 1, 1}, 21},
+                   {4095, 3, {63, 64, 65}, {1, 1, 1}, 91},
+                   {4093, 5, {4092, 4092, 4092, 4092, 4092}, {1, 1, 1, 1, 1}, 4093},
+                   {2, 2, {3, 3}, {4, 1}, 1},
+                   {2520, 4, {50, 50, 50, 50}, {3, 3, 3, 3}, 252}};
+    for (size_t i = 0; i < sizeof figures / sizeof *figures; i++) {
+        const uint32_t d = figures[i].d, *extents = figures[i].extents, *least = figures[i].least;
+        int ones = 1;
+        for (uint32_t k = 0; k < d; k++)
+            ones = ones && least[k] == 1;
+        for (int without = 0; without <= ones; without++) {
+            const uint32_t *given = without ? nothing : least;
+            const size_t count = without ? 0 : d, n = MULTIPARTITION_SMALLEST_REFUSED_LENGTH;
+            uint32_t answer[ROOM];
+            EXPECT(multipartition_smallest_refused(figures[i].p, d, extents, d, planned.weights, d, given, count, ready(answer), n), 0);
+            EXPECT(answer[MULTIPARTITION_SMALLEST_REFUSED_FOUND], figures[i].divisor != 0);
+            EXPECT(answer[MULTIPARTITION_SMALLEST_REFUSED], figures[i].divisor);
+            for (uint32_t at = 2; at < ROOM; at++)
+                expect("a place past the answer", answer[at], SPARE + at);
+        }
+    }
+}
+
 static void step_places(const uint32_t *plan)
 {
     const size_t n = MULTIPARTITION_PLAN_LENGTH;
@@ -394,6 +429,8 @@ static void refusal_places(void)
     EXPECT(multipartition_place_of(extent), 5);
     EXPECT(multipartition_number_of(thickness), MULTIPARTITION_BAD_THICKNESS);
     EXPECT(multipartition_place_of(thickness), 5);
+    EXPECT(multipartition_smallest_refused(4, D, last_bad, D, planned.weights, D, nothing, 0, ready(plan), 2), extent);
+    EXPECT(multipartition_smallest_refused(4, D, eights, D, planned.weights, D, last_bad, D, ready(plan), 2), thickness);
     EXPECT(multipartition_plan(4, D, eights, D, planned.weights, D, nothing, 0, ready(plan), n), 0);
     for (size_t i = 0; i < MANY; i++)
         elements[i] = i + 1 < MANY ? 7 : 6;
@@ -411,6 +448,7 @@ int main(void)
     probe_lines(plan);
     thick_enough(plan);
     least_thicknesses();
+    share_places();
     step_places(plan);
     step_lengths();
     timetable_places();

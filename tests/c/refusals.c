@@ -68,14 +68,14 @@ static uint32_t *made(struct list list)
 }
 
 static void thick_job(planning *call, const char *what, uint32_t p, uint32_t d, struct list extent, size_t weights_length, struct list thickness,
-                      size_t plan_length, enum multipartition_number number, uint32_t place)
+                      size_t answer_length, enum multipartition_number number, uint32_t place)
 {
     uint32_t *extents = made(extent);
     uint32_t *weights = filled(weights_length, 1);
     uint32_t *least = made(thickness);
-    uint32_t *plan = filled(plan_length, KEPT);
-    expect(what, call(p, d, extents, extent.length, weights, weights_length, least, thickness.length, plan, plan_length), number, place);
-    expect_kept(what, plan, plan_length);
+    uint32_t *answer = filled(answer_length, KEPT);
+    expect(what, call(p, d, extents, extent.length, weights, weights_length, least, thickness.length, answer, answer_length), number, place);
+    expect_kept(what, answer, answer_length);
     free(extents);
     free(weights);
     free(least);
@@ -83,18 +83,17 @@ static void thick_job(planning *call, const char *what, uint32_t p, uint32_t d, 
 
 /* The same without least thicknesses, and with d ones if d is in range. */
 static void job(planning *call, const char *what, uint32_t p, uint32_t d, size_t extents_length, uint32_t extent, uint32_t last_extent,
-                size_t weights_length, size_t plan_length, enum multipartition_number number, uint32_t place)
+                size_t weights_length, size_t answer_length, enum multipartition_number number, uint32_t place)
 {
     const struct list extents = {extents_length, extent, last_extent}, none = {0, 0, 0}, ones = {d, 1, 1};
-    thick_job(call, what, p, d, extents, weights_length, none, plan_length, number, place);
+    thick_job(call, what, p, d, extents, weights_length, none, answer_length, number, place);
     if (2 <= d && d <= 5)
-        thick_job(call, what, p, d, extents, weights_length, ones, plan_length, number, place);
+        thick_job(call, what, p, d, extents, weights_length, ones, answer_length, number, place);
 }
 
-/* Refusals that the planner and the diagonal layout have in common. */
-static void jobs(planning *call)
+/* Refusals that all calls with a job have in common. The answer has n places. */
+static void jobs(planning *call, size_t n)
 {
-    const size_t n = MULTIPARTITION_PLAN_LENGTH;
     job(call, "d too small", 4, 1, 1, 8, 8, 1, n, MULTIPARTITION_BAD_DIMENSIONS, 0);
     job(call, "d too large", 0, 6, 0, 8, 8, 0, n, MULTIPARTITION_BAD_DIMENSIONS, 0);
     job(call, "no processor", 0, 2, 0, 8, 8, 0, n, MULTIPARTITION_BAD_PROCESSORS, 0);
@@ -104,21 +103,17 @@ static void jobs(planning *call)
     job(call, "first extent 0", 4, 3, 3, 0, 8, 3, n, MULTIPARTITION_BAD_EXTENT, 1);
     job(call, "last extent too large", 4, 3, 3, 8, 1000001, 3, n, MULTIPARTITION_BAD_EXTENT, 3);
     job(call, "extent before cuts", 4, 2, 2, 3, 0, 2, 0, MULTIPARTITION_BAD_EXTENT, 2);
-    job(call, "no cuts", 4, 2, 2, 3, 8, 2, n, MULTIPARTITION_NO_CUTS, 0);
-    job(call, "no cuts before the length", 4, 2, 2, 3, 8, 2, 0, MULTIPARTITION_NO_CUTS, 0);
-    job(call, "plan list too short", 4, 3, 3, 8, 8, 3, n - 1, MULTIPARTITION_BAD_ANSWER_LENGTH, 0);
-    job(call, "plan list too long", 4, 3, 3, 8, 8, 3, n + 1, MULTIPARTITION_BAD_ANSWER_LENGTH, 0);
+    job(call, "no answer list", 4, 3, 3, 8, 8, 3, 0, MULTIPARTITION_BAD_ANSWER_LENGTH, 0);
+    job(call, "answer list too short", 4, 3, 3, 8, 8, 3, n - 1, MULTIPARTITION_BAD_ANSWER_LENGTH, 0);
+    job(call, "answer list too long", 4, 3, 3, 8, 8, 3, n + 1, MULTIPARTITION_BAD_ANSWER_LENGTH, 0);
 }
 
-/* What least thicknesses are refused for, each where all later refusals apply too, and each without them. The products of cut and thickness that are
- * too large for 32 bits would be 0, 4096 and 8 there. */
-static void thicknesses(planning *call)
+/* What least thicknesses are refused for, likewise, each where all later refusals apply too, and each without them. */
+static void thicknesses(planning *call, size_t n)
 {
-    const size_t n = MULTIPARTITION_PLAN_LENGTH;
     const struct list eights = {3, 8, 8}, ones = {3, 1, 1}, bad_last = {3, 8, 0}, zeros = {3, 0, 0}, zero_last = {3, 1, 0}, zero_first = {3, 0, 1};
     const struct list few = {2, 0, 0}, one = {1, 1, 1}, many = {4, 0, 0}, few_ones = {2, 1, 1}, many_ones = {4, 1, 1};
-    const struct list pair = {2, 8, 8}, six_five = {2, 6, 5}, sixes = {2, 6, 6}, threes = {2, 3, 3}, zero_second = {2, UINT32_MAX, 0};
-    const struct list wide = {2, 4096, 4096}, long_and_thin = {2, 1000000, 1};
+    const struct list pair = {2, 8, 8}, sixes = {2, 6, 6}, threes = {2, 3, 3}, zero_second = {2, UINT32_MAX, 0}, long_and_thin = {2, 1000000, 1};
     thick_job(call, "d before the thicknesses", 4, 6, zeros, 3, few, 0, MULTIPARTITION_BAD_DIMENSIONS, 0);
     thick_job(call, "d before the thicknesses", 4, 1, one, 1, few, 0, MULTIPARTITION_BAD_DIMENSIONS, 0);
     thick_job(call, "processors before the thicknesses", 0, 3, zeros, 3, few, 0, MULTIPARTITION_BAD_PROCESSORS, 0);
@@ -135,6 +130,18 @@ static void thicknesses(planning *call)
     thick_job(call, "last thickness 0", 4, 3, ones, 3, zero_last, 0, MULTIPARTITION_BAD_THICKNESS, 3);
     thick_job(call, "last thickness 0", 4, 3, eights, 3, zero_last, n, MULTIPARTITION_BAD_THICKNESS, 3);
     thick_job(call, "thickness 0 before cuts", 4, 2, pair, 2, zero_second, 0, MULTIPARTITION_BAD_THICKNESS, 2);
+    thick_job(call, "just thick enough", 2, 2, sixes, 2, threes, n - 1, MULTIPARTITION_BAD_ANSWER_LENGTH, 0);
+    thick_job(call, "as thick as the grid", 1, 2, long_and_thin, 2, long_and_thin, 0, MULTIPARTITION_BAD_ANSWER_LENGTH, 0);
+}
+
+/* Jobs without cuts, for the planner and the diagonal layout. The products of cut and thickness that are too large for 32 bits would be 0, 4096 and 8
+ * there. */
+static void no_cuts(planning *call)
+{
+    const size_t n = MULTIPARTITION_PLAN_LENGTH;
+    const struct list pair = {2, 8, 8}, six_five = {2, 6, 5}, threes = {2, 3, 3}, eights = {3, 8, 8}, wide = {2, 4096, 4096};
+    job(call, "no cuts", 4, 2, 2, 3, 8, 2, n, MULTIPARTITION_NO_CUTS, 0);
+    job(call, "no cuts before the length", 4, 2, 2, 3, 8, 2, 0, MULTIPARTITION_NO_CUTS, 0);
     thick_job(call, "too thick", 2, 2, six_five, 2, threes, n, MULTIPARTITION_NO_CUTS, 0);
     thick_job(call, "too thick before the length", 2, 2, six_five, 2, threes, 0, MULTIPARTITION_NO_CUTS, 0);
     thick_job(call, "too thick for one cut", 1, 2, pair, 2, (struct list){2, 1, 9}, n, MULTIPARTITION_NO_CUTS, 0);
@@ -142,8 +149,41 @@ static void thicknesses(planning *call)
     thick_job(call, "a product of 33 bits", 4096, 2, wide, 2, (struct list){2, 1, 1048576}, n, MULTIPARTITION_NO_CUTS, 0);
     thick_job(call, "a product of 33 bits", 4096, 2, wide, 2, (struct list){2, 1048577, 1}, n, MULTIPARTITION_NO_CUTS, 0);
     thick_job(call, "a product of 33 bits", 8, 2, pair, 2, (struct list){2, 536870913, 536870913}, n, MULTIPARTITION_NO_CUTS, 0);
-    thick_job(call, "just thick enough", 2, 2, sixes, 2, threes, n - 1, MULTIPARTITION_BAD_ANSWER_LENGTH, 0);
-    thick_job(call, "as thick as the grid", 1, 2, long_and_thin, 2, long_and_thin, 0, MULTIPARTITION_BAD_ANSWER_LENGTH, 0);
+}
+
+/* A job that the planner refuses with 5: the call for the smallest divisor answers in a list of the right length, and refuses others with 9. */
+static void share(const char *what, uint32_t p, uint32_t d, struct list extent, struct list thickness)
+{
+    const size_t n = MULTIPARTITION_SMALLEST_REFUSED_LENGTH, wrong[] = {0, n - 1, n + 1, 2 * n, MULTIPARTITION_PLAN_LENGTH};
+    uint32_t *extents = made(extent);
+    uint32_t *weights = filled(d, 1);
+    uint32_t *least = made(thickness);
+    uint32_t *answer = filled(n, KEPT);
+    thick_job(multipartition_plan, what, p, d, extent, d, thickness, MULTIPARTITION_PLAN_LENGTH, MULTIPARTITION_NO_CUTS, 0);
+    for (size_t i = 0; i < sizeof wrong / sizeof *wrong; i++)
+        thick_job(multipartition_smallest_refused, what, p, d, extent, d, thickness, wrong[i], MULTIPARTITION_BAD_ANSWER_LENGTH, 0);
+    expect(what, multipartition_smallest_refused(p, d, extents, d, weights, d, least, thickness.length, answer, n), MULTIPARTITION_ANSWERED, 0);
+    if (answer[MULTIPARTITION_SMALLEST_REFUSED_FOUND] != 1) {
+        printf("%s: nothing to show\n", what);
+        failures++;
+    }
+    free(extents);
+    free(weights);
+    free(least);
+    free(answer);
+}
+
+/* No 5 comes back, whatever the least thicknesses are. */
+static void shares(void)
+{
+    const struct list none = {0, 0, 0}, fives = {2, 5, 5}, sixes = {3, 6, 6}, six_five = {2, 6, 5}, threes = {2, 3, 3}, wide = {2, 4096, 4095};
+    share("12 on 5 5", 12, 2, fives, none);
+    share("12 on 5 5, slabs of 1", 12, 2, fives, (struct list){2, 1, 1});
+    share("60 on 6 6 6", 60, 3, sixes, none);
+    share("2 on 6 5, slabs of 3", 2, 2, six_five, threes);
+    share("4096 on 4096 4095", 4096, 2, wide, none);
+    share("no slab is thick enough", 1, 2, fives, (struct list){2, 1, 6});
+    share("no slab is thick enough", 4096, 3, sixes, (struct list){3, UINT32_MAX, 1});
 }
 
 /* A job of the diagonal layout. */
@@ -482,10 +522,15 @@ int main(void)
     const uint32_t weights[3] = {1, 1, 1};
     const uint32_t least[3] = {4, 1, 2};
     uint32_t plan[MULTIPARTITION_PLAN_LENGTH], diagonal_plan[MULTIPARTITION_PLAN_LENGTH];
-    jobs(multipartition_plan);
-    jobs(multipartition_diagonal);
-    thicknesses(multipartition_plan);
-    thicknesses(multipartition_diagonal);
+    jobs(multipartition_plan, n);
+    jobs(multipartition_diagonal, n);
+    jobs(multipartition_smallest_refused, MULTIPARTITION_SMALLEST_REFUSED_LENGTH);
+    thicknesses(multipartition_plan, n);
+    thicknesses(multipartition_diagonal, n);
+    thicknesses(multipartition_smallest_refused, MULTIPARTITION_SMALLEST_REFUSED_LENGTH);
+    no_cuts(multipartition_plan);
+    no_cuts(multipartition_diagonal);
+    shares();
     diagonals();
     hypercubes();
     visits();

@@ -14,7 +14,7 @@
 
 #include "multipartition.h"
 
-enum { THREAD = 1 << 16, GUARD = 1 << 20, UNUSED = 0xA5, MOST = 5, PROBES = 1000, SIDE = 1000, N = MULTIPARTITION_PLAN_LENGTH };
+enum { THREAD = 1 << 16, GUARD = 1 << 20, UNUSED = 0xA5, MOST = 5, PROCESSORS = 4096, PROBES = 1000, SIDE = 1000, N = MULTIPARTITION_PLAN_LENGTH };
 
 static uint32_t plan[N], swept[N], square[N], diagonal[N];
 static uint32_t position[MOST];
@@ -36,7 +36,7 @@ static const uint32_t least[MOST] = {244, 1, 3, 2, 244}; /* 4096 cuts fit in eve
 /* Every processor count with every number of dimensions, without least thicknesses and with them. */
 static void plan_all(void)
 {
-    for (uint32_t p = 1; p <= 4096; p++)
+    for (uint32_t p = 1; p <= PROCESSORS; p++)
         for (uint32_t d = 2; d <= MOST; d++)
             for (size_t w = 0; w < sizeof weights / sizeof *weights; w++) {
                 check(multipartition_plan(p, d, extents, d, weights[w], d, least, 0, plan, N));
@@ -44,12 +44,63 @@ static void plan_all(void)
             }
 }
 
+/* The largest cube in which a job is refused, for every processor count but 1 and every number of dimensions: from a roomy one on, each is smaller by
+ * one than the cuts of the last one need. */
+static uint32_t too_small[MOST + 1][PROCESSORS + 1];
+
+static void find_too_small(void)
+{
+    for (uint32_t d = 2; d <= MOST; d++)
+        for (uint32_t p = 2; p <= PROCESSORS; p++) {
+            uint32_t cube[MOST] = {PROCESSORS, PROCESSORS, PROCESSORS, PROCESSORS, PROCESSORS};
+            while (multipartition_plan(p, d, cube, d, weights[0], d, least, 0, plan, N) == MULTIPARTITION_ANSWERED) {
+                uint32_t most = 0;
+                for (uint32_t k = 0; k < d; k++)
+                    most = plan[MULTIPARTITION_CUTS + k] > most ? plan[MULTIPARTITION_CUTS + k] : most;
+                for (uint32_t k = 0; k < d; k++)
+                    cube[k] = most - 1;
+            }
+            too_small[d][p] = cube[0];
+        }
+}
+
+/* What is found is checked too: a divisor or nothing. */
+static void ask_share(uint32_t p, uint32_t d, const uint32_t *grid, const uint32_t *by, const uint32_t *thick, size_t length, uint32_t found)
+{
+    check(multipartition_smallest_refused(p, d, grid, d, by, d, thick, length, answer, MULTIPARTITION_SMALLEST_REFUSED_LENGTH));
+    if (answer[MULTIPARTITION_SMALLEST_REFUSED_FOUND] != found)
+        exit(EXIT_FAILURE);
+}
+
+/* Every processor count with every number of dimensions, where all divisors are accepted, and where p and not many others are refused; without least
+ * thicknesses and with them. Then grids in which no count is accepted. */
+static void ask_shares(void)
+{
+    const uint32_t thicker[MOST] = {1000001, 1000001, 1000001, 1000001, 1000001};
+    for (uint32_t p = 1; p <= PROCESSORS; p++)
+        for (uint32_t d = 2; d <= MOST; d++) {
+            const uint32_t *by = weights[p % (sizeof weights / sizeof *weights)];
+            ask_share(p, d, extents, by, least, 0, 0);
+            ask_share(p, d, extents, by, least, d, 0);
+            ask_share(p, d, extents, by, thicker, d, 1);
+            if (p == 1)
+                continue;
+            uint32_t cube[MOST], thick_cube[MOST];
+            for (uint32_t k = 0; k < d; k++) {
+                cube[k] = too_small[d][p];
+                thick_cube[k] = too_small[d][p] * least[k];
+            }
+            ask_share(p, d, cube, by, least, 0, 1);
+            ask_share(p, d, thick_cube, by, least, d, 1);
+        }
+}
+
 /* Every processor count with two dimensions, and every square with three, likewise. */
 static void plan_all_diagonally(void)
 {
     for (size_t w = 0; w < sizeof weights / sizeof *weights; w++)
         for (uint32_t given = 0; given < 2; given++) {
-            for (uint32_t p = 1; p <= 4096; p++)
+            for (uint32_t p = 1; p <= PROCESSORS; p++)
                 check(multipartition_diagonal(p, 2, extents, 2, weights[w], 2, least, given * 2, diagonal, N));
             for (uint32_t s = 1; s <= 64; s++)
                 check(multipartition_diagonal(s * s, 3, extents, 3, weights[w], 3, least, given * 3, diagonal, N));
@@ -81,7 +132,7 @@ static void ask_owner(void)
 /* Every processor count of the layout, at the last position. */
 static void ask_hypercube_owner(void)
 {
-    for (uint32_t p = 1, side = 1; p <= 4096; p *= 4, side *= 2) {
+    for (uint32_t p = 1, side = 1; p <= PROCESSORS; p *= 4, side *= 2) {
         const uint32_t last[3] = {side - 1, side - 1, side - 1};
         check(multipartition_hypercube_owner(p, last, 3, answer, MULTIPARTITION_HYPERCUBE_OWNER_LENGTH));
     }
@@ -202,6 +253,7 @@ static void within(const char *what, size_t stated, void (*call)(void))
 
 int main(void)
 {
+    find_too_small();
     plan_one();
     heads = malloc(plan[MULTIPARTITION_PROCESSORS] * sizeof *heads);
     nexts = malloc(tiles * sizeof *nexts);
@@ -220,5 +272,6 @@ int main(void)
     within("chains", MULTIPARTITION_CHAINS_STACK, ask_chains);
     within("diagonal", MULTIPARTITION_QUESTION_STACK, plan_all_diagonally);
     within("plan", MULTIPARTITION_PLAN_STACK, plan_all);
+    within("smallest refused", MULTIPARTITION_PLAN_STACK, ask_shares);
     return EXIT_SUCCESS;
 }

@@ -82,6 +82,8 @@ swap CUTS LEAST
 swap KIND LEAST
 swap LEAST PLAN_LENGTH
 swap KIND_PLANNED KIND_DIAGONAL
+swap SMALLEST_REFUSED_FOUND SMALLEST_REFUSED
+swap SMALLEST_REFUSED SMALLEST_REFUSED_LENGTH
 swap HYPERCUBE_OWNER HYPERCUBE_OWNER_LENGTH
 swap NEIGHBOUR_FOUND NEIGHBOUR
 swap SLAB_FIRST SLAB_AFTER
@@ -126,8 +128,9 @@ wrong 'slabs that may not be written' 's/\(uint32_t \*slabs\)/const \1/'
 wrong 'slabs before elements' 's/const \(uint32_t \*\)elements/\1slabs/; t; s/\(uint32_t \*\)slabs/const \1elements/'
 wrong 'no least thicknesses' '/size_t least_length,$/d'
 wrong 'processors of the diagonal layout of 64 bits' 's/\(multipartition_diagonal(\)uint32_t/\1uint64_t/'
+wrong 'processors of the smallest refused of 64 bits' 's/\(multipartition_smallest_refused(\)uint32_t/\1uint64_t/'
 wrong 'processors of the hypercube of 64 bits' 's/\(multipartition_hypercube_owner(\)uint32_t/\1uint64_t/'
-for call in plan diagonal owner hypercube_owner neighbour slab slab_of slabs_of tile_number tile_position step timetable chains; do
+for call in plan smallest_refused diagonal owner hypercube_owner neighbour slab slab_of slabs_of tile_number tile_position step timetable chains; do
     wrong "$call returns 32 bits" "s/^uint64_t \(multipartition_$call(\)/uint32_t \1/"
 done
 

@@ -16,6 +16,19 @@ extern "C" {
         plan_length: usize,
     ) -> u64;
 
+    fn multipartition_smallest_refused(
+        processors: u32,
+        dimensions: u32,
+        extents: *const u32,
+        extents_length: usize,
+        weights: *const u32,
+        weights_length: usize,
+        least: *const u32,
+        least_length: usize,
+        answer: *mut u32,
+        answer_length: usize,
+    ) -> u64;
+
     fn multipartition_diagonal(
         processors: u32,
         dimensions: u32,
@@ -153,6 +166,30 @@ pub fn plan(
             least.len(),
             plan.as_mut_ptr(),
             plan.len(),
+        )
+    }
+}
+
+pub fn smallest_refused(
+    p: u32,
+    d: u32,
+    extents: &[u32],
+    weights: &[u32],
+    least: &[u32],
+    answer: &mut [u32],
+) -> u64 {
+    unsafe {
+        multipartition_smallest_refused(
+            p,
+            d,
+            extents.as_ptr(),
+            extents.len(),
+            weights.as_ptr(),
+            weights.len(),
+            least.as_ptr(),
+            least.len(),
+            answer.as_mut_ptr(),
+            answer.len(),
         )
     }
 }

@@ -132,31 +132,42 @@ pub fn ask(lists: &mut Lists, list: &[u32], question: &Question, lent: &[u32]) -
 
 /// Plans a job, likewise.
 pub fn plan(lists: &mut Lists, job: &Job, lent: &[u32]) -> u64 {
-    make(lists, job, lent, job.plan(), calls::plan)
+    let planned = job.plan().map(|plan| list_of(&plan).to_vec());
+    call(lists, job, lent, planned, calls::plan)
 }
 
 /// Asks for the diagonal plan of a job, likewise.
 pub fn diagonal(lists: &mut Lists, job: &Job, lent: &[u32]) -> u64 {
-    make(lists, job, lent, job.diagonal(), calls::diagonal)
+    let planned = job.diagonal().map(|plan| list_of(&plan).to_vec());
+    call(lists, job, lent, planned, calls::diagonal)
 }
 
-/// A call that makes a plan of a job.
+/// Asks for the smallest divisor of p for which a job is refused with 5, likewise: 1 and the divisor, or twice 0 where
+/// there is nothing to show.
+pub fn smallest_refused(lists: &mut Lists, job: &Job, lent: &[u32]) -> u64 {
+    let answered = job
+        .smallest_refused()
+        .map(|divisor| divisor.map_or(vec![0, 0], |divisor| vec![1, divisor]));
+    call(lists, job, lent, answered, calls::smallest_refused)
+}
+
+/// A call that takes a job: it makes a plan, or asks for a divisor.
 pub type Planner = fn(u32, u32, &[u32], &[u32], &[u32], &mut [u32]) -> u64;
 
-/// Has a plan made, which is to be this one. The lists that say what to plan keep their contents.
-fn make(
+/// Calls with a job, to which this is the answer. The lists that describe the job keep their contents.
+fn call(
     lists: &mut Lists,
     job: &Job,
     lent: &[u32],
-    planned: Result<Plan, Refusal>,
-    call: Planner,
+    answered: Result<Vec<u32>, Refusal>,
+    planner: Planner,
 ) -> u64 {
     let given = [&job.extents[..], &job.weights, &job.least];
     let [extents, weights, least, lent_list] = lists.hold([given[0], given[1], given[2], lent]);
-    let returned = call(job.p, job.d, extents, weights, least, lent_list);
+    let returned = planner(job.p, job.d, extents, weights, least, lent_list);
     assert_eq!(
         (returned, lent_list.to_vec()),
-        outcome(planned.map(|plan| list_of(&plan).to_vec()), lent),
+        outcome(answered, lent),
         "{job:?}"
     );
     assert_eq!([&*extents, weights, least], given, "{job:?}");

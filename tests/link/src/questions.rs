@@ -137,6 +137,16 @@ pub fn job_for_diagonal(random: &mut Random) -> Job {
     }
 }
 
+/// A job with little room for its processors; one in four is any job.
+pub fn crowded_job(random: &mut Random) -> Job {
+    if random.once_in(4) {
+        job(random)
+    } else {
+        let line = cases::crowded(random);
+        job_of(random, &line)
+    }
+}
+
 /// The job of a line, or, once in a while, with one of its lists made shorter or longer.
 fn job_of(random: &mut Random, line: &[u8]) -> Job {
     let mut job = text::job(line).expect("a readable line");

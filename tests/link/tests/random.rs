@@ -5,15 +5,17 @@ use std::collections::{BTreeMap, HashMap};
 use std::mem::discriminant;
 
 use link::calls;
-use link::compared::{ask, chain, diagonal, hypercube_owner, plan, probe, Lists, Planner};
+use link::compared::{
+    ask, chain, diagonal, hypercube_owner, plan, probe, smallest_refused, Lists, Planner,
+};
 use link::guarded::ROOM;
 use link::plan_list::{
     list_of, plan_of, PlanList, COST_HIGH, COST_LOW, CUTS, DIMENSIONS, KIND, LEAST, PLAN_LENGTH,
 };
 use link::questions::{
-    any_numbers, diagonals, dimensions, hypercube, job, job_for_diagonal, lent, lent_to_probes,
-    made_by_hand, move_to_limit, plan_list, planned, probe_line, question, tiles_in_slab,
-    timetable, Question,
+    any_numbers, crowded_job, diagonals, dimensions, hypercube, job, job_for_diagonal, lent,
+    lent_to_probes, made_by_hand, move_to_limit, plan_list, planned, probe_line, question,
+    tiles_in_slab, timetable, Question,
 };
 use oracle::plan::{Job, Plan, DIAGONAL};
 use oracle::random::Random;
@@ -312,6 +314,21 @@ fn jobs_for_diagonal_plans() {
         seen.note(diagonal(&mut lists, &job, &lent));
     }
     seen.check(&[0, 1, 2, 3, 4, 5, 9, 12, 13], 100);
+}
+
+/// Jobs of which most are refused with 5 by the planner. The call for the smallest divisor that is refused never
+/// returns 5.
+#[test]
+fn jobs_for_smallest_refused_divisors() {
+    let mut random = Random::new(19);
+    let mut lists = Lists::default();
+    let mut seen = Seen::default();
+    for _ in 0..10_000 {
+        let job = crowded_job(&mut random);
+        let lent = lent(&mut random, 2);
+        seen.note(smallest_refused(&mut lists, &job, &lent));
+    }
+    seen.check(&[0, 1, 2, 3, 4, 9, 13], 30);
 }
 
 /// Every count of processors in both older layouts: which of them suit.

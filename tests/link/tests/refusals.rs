@@ -2,8 +2,8 @@
 //! alone.
 
 use link::calls::{
-    chains, diagonal, hypercube_owner, neighbour, owner, plan, slab, slab_of, slabs_of, step,
-    tile_number, tile_position, timetable,
+    chains, diagonal, hypercube_owner, neighbour, owner, plan, slab, slab_of, slabs_of,
+    smallest_refused, step, tile_number, tile_position, timetable,
 };
 use link::compared::Planner;
 use link::plan_list::{
@@ -151,6 +151,70 @@ fn jobs_with_thicknesses() {
     }
     // The planner has 4 4 1 for it.
     refused::<PLAN_LENGTH>(5, |list| diagonal(4, 3, &[8; 3], &[1; 3], &[1, 1, 5], list));
+}
+
+/// "Other refusals come back as before": 1, 2, 3, 4 and 13, each where all later ones apply too and each without them.
+/// No 5 comes back.
+#[test]
+fn jobs_for_smallest_refused_divisors() {
+    let call = smallest_refused;
+    for d in [0, 1, 6, u32::MAX] {
+        refused::<0>(1, |answer| call(0, d, &[], &[], &[0], answer));
+        refused::<2>(1, |answer| call(12, d, &[5; 2], &[1; 2], &[], answer));
+    }
+    for p in [0, 4097, u32::MAX] {
+        refused::<0>(2, |answer| call(p, 2, &[0], &[], &[0], answer));
+        refused::<2>(2, |answer| call(p, 2, &[5; 2], &[1; 2], &[], answer));
+    }
+    for length in [0, 1, 3, 5] {
+        let (zeros, ones) = (vec![0; length], vec![1; length]);
+        refused::<0>(3, |answer| call(12, 2, &zeros, &[1; 2], &[0; 2], answer));
+        refused::<2>(3, |answer| call(12, 2, &ones, &[1; 2], &[], answer));
+        refused::<0>(3, |answer| call(12, 2, &[0; 2], &ones, &[0; 2], answer));
+        refused::<2>(3, |answer| call(12, 2, &[5; 2], &ones, &[], answer));
+    }
+    for length in [1, 3, 4, 5, 6] {
+        let (zeros, ones) = (vec![0; length], vec![1; length]);
+        refused::<0>(3, |answer| call(12, 2, &[0; 2], &[1; 2], &zeros, answer));
+        refused::<2>(3, |answer| call(12, 2, &[5; 2], &[1; 2], &ones, answer));
+    }
+    let grid = |extents: [u32; 2], least: [u32; 2]| {
+        move |answer: &mut [u32]| call(12, 2, &extents, &[1; 2], &least, answer)
+    };
+    refused::<0>(4 | 1 << 32, grid([0, 0], [0, 0]));
+    refused::<2>(4 | 1 << 32, grid([1_000_001, 5], [1, 1]));
+    refused::<0>(4 | 2 << 32, grid([5, 0], [0, 0]));
+    refused::<2>(4 | 2 << 32, grid([5, 0], [1, 1]));
+    refused::<0>(13 | 1 << 32, grid([5, 5], [0, 0]));
+    refused::<2>(13 | 1 << 32, grid([12, 12], [0, 1]));
+    refused::<0>(13 | 2 << 32, grid([5, 5], [6, 0]));
+    refused::<2>(13 | 2 << 32, grid([12, 12], [1, 0]));
+    let least = [1, 1, 1, 1, 0];
+    refused::<2>(13 | 5 << 32, |answer| {
+        call(7, 5, &[1; 5], &[1; 5], &least, answer)
+    });
+}
+
+/// A wrong length is a 9 after all of these, where there is a divisor to show and where there is nothing.
+#[test]
+fn answer_lists_for_smallest_refused_divisors() {
+    for (extents, least) in [
+        ([5, 5], [1, 1]),
+        ([9, 9], [1, 1]),
+        ([9, 9], [1, 10]),
+        ([12, 12], [1, 1]),
+        ([24, 25], [2, 2]),
+    ] {
+        for least in [&least[..], &[]] {
+            let call =
+                |answer: &mut [u32]| smallest_refused(12, 2, &extents, &[1; 2], least, answer);
+            refused::<0>(9, call);
+            refused::<1>(9, call);
+            refused::<3>(9, call);
+            refused::<PLAN_LENGTH>(9, call);
+            assert_eq!(call(&mut [77; 2]), 0, "{extents:?}, {least:?}");
+        }
+    }
 }
 
 /// "p = 4 to the power e with e from 0 to 6 [...]: three dimensions of 2 to the power e slabs."
@@ -556,6 +620,20 @@ fn plans_with_thicknesses() {
         assert_eq!((list[COST_LOW], list[COST_HIGH]), (cost, 0));
         assert_eq!(list[LEAST..], [least[0], least[1], least[2], 0, 0]);
     }
+}
+
+/// "For p = 12 on a grid of 5 by 5 with unit thicknesses, the answer is 6."
+#[test]
+fn smallest_refused_divisors() {
+    let mut two = [77; 2];
+    let twelve = |extents: &[u32], least: &[u32], answer: &mut [u32]| {
+        smallest_refused(12, 2, extents, &[1; 2], least, answer)
+    };
+    assert_eq!((twelve(&[5, 5], &[], &mut two), two), (0, [1, 6]));
+    assert_eq!((twelve(&[12, 12], &[], &mut two), two), (0, [0, 0]));
+    assert_eq!((twelve(&[5, 5], &[1, 1], &mut two), two), (0, [1, 6]));
+    assert_eq!((twelve(&[9, 9], &[], &mut two), two), (0, [1, 12]));
+    assert_eq!((twelve(&[9, 9], &[1, 10], &mut two), two), (0, [1, 1]));
 }
 
 #[test]

@@ -5,7 +5,8 @@ use crate::cuts::elementary;
 use crate::random::Random;
 
 /// The grids and remarks of document 01, the limits of its ranges, jobs that fewer tiles decide
-/// (document 02, f), jobs of the largest size, and jobs with least thicknesses (document 02, g).
+/// (document 02, f), jobs of the largest size, jobs with least thicknesses (document 02, g), and jobs
+/// that are refused with 5 for other divisors of p too (document 02, j).
 pub fn fixed() -> Vec<Vec<u8>> {
     let lines = [
         "4 3 8 8 8 1 1 1",
@@ -73,6 +74,20 @@ pub fn fixed() -> Vec<Vec<u8>> {
         "2 5 9 9 9 9 9 1 1 1 1 1 1 1 1 1 1",
         "2 5 9 9 9 9 9 1 1 1 1 1 1 1 1 1 1 1",
         "2 6 9 9 9 9 9 9 1 1 1 1 1 1 0 0 0",
+        "12 2 5 5 1 1",
+        "12 2 5 5 0 4294967295",
+        "12 2 5 5 1 1 1 1",
+        "12 2 9 9 1 1",
+        "12 2 12 12 1 1",
+        "12 2 5 0 1 1",
+        "30 3 5 5 5 1 1 1",
+        "60 3 6 6 6 1 1 1",
+        "3360 3 20 20 20 1 1 1",
+        "4095 3 63 64 65 1 1 1",
+        "2 2 3 3 1 1 4 1",
+        "4096 5 1 1 1 1 1 1 1 1 1 1 2 2 2 2 2",
+        "2520 4 50 50 50 50 1 1 1 1 3 3 3 3",
+        "4093 5 4092 4092 4092 4092 4092 1 1 1 1 1",
     ];
     lines
         .iter()
@@ -166,6 +181,24 @@ pub fn diagonal(random: &mut Random) -> Vec<u8> {
         _ => (),
     }
     let weights = weights(random, extents.len());
+    finished(random, &mut numbers(p, extents, weights))
+}
+
+/// A job line with little room for its processors (document 02, j): mostly refused with 5, for p alone
+/// or for some or many of its divisors, else with an answer or one of refusals 1 to 4 and 13.
+pub fn crowded(random: &mut Random) -> Vec<u8> {
+    let d = random.between(2, 5) as usize;
+    let p = match random.between(0, 3) {
+        0 => processors(random),
+        1 => random.between(2, 64),
+        _ => *random.pick(&[24, 36, 48, 60, 72, 84, 90, 96, 120, 144, 180, 210, 240, 360]),
+    };
+    // As many slabs in all dimensions but one make p tiles or more, and one slab less does not.
+    let side = (1..=p).find(|s| s.pow(d as u32 - 1) >= p).unwrap_or(p);
+    let most = side + *random.pick(&[0, 1, side / 4, side / 2, side]);
+    let low = *random.pick(&[1, side.div_ceil(2), side]);
+    let extents = (0..d).map(|_| random.between(low, most)).collect();
+    let weights = weights(random, d);
     finished(random, &mut numbers(p, extents, weights))
 }
 
@@ -384,6 +417,7 @@ fn damage(random: &mut Random, text: &mut Vec<u8>) {
 mod tests {
     use super::*;
     use crate::cuts::{all_fitting, by_trying_all, cost, even, tiles};
+    use crate::numbers::{divisors, prime_factors};
     use crate::plan::{Job, Plan};
     use crate::print::answer;
     use crate::refusal::NO_CUTS;
@@ -538,6 +572,67 @@ mod tests {
         assert!(counts.keys().eq(&[0, 1, 2, 3, 4, 5, 12, 13]), "{counts:?}");
         assert!(counts.values().all(|&count| count >= 10), "{counts:?}");
         assert!(counts[&0] >= 1000 && counts[&12] >= 100, "{counts:?}");
+    }
+
+    /// How a job of a crowded grid is answered, and which other answers would be wrong.
+    fn crowded_outcomes(job: &Job) -> Vec<&'static str> {
+        let answer = match job.smallest_refused() {
+            Ok(Some(answer)) => answer,
+            Ok(None) => return vec!["nothing to show"],
+            Err(_) => return vec!["another refusal"],
+        };
+        let p = job.p;
+        let refused = |p: u32| Job { p, ..job.clone() }.plan() == Err(NO_CUTS);
+        let least_prime = prime_factors(p).first().map(|&(prime, _)| prime);
+        let thin = Job {
+            least: Vec::new(),
+            ..job.clone()
+        };
+        let kinds = [
+            ("1", answer == 1),
+            ("between 1 and p", 1 < answer && answer < p),
+            ("p", answer == p),
+            ("not the least prime factor", Some(answer) != least_prime),
+            (
+                "a larger divisor is accepted",
+                divisors(p).iter().any(|&x| x > answer && !refused(x)),
+            ),
+            (
+                "a smaller number that does not divide p is refused",
+                (1..answer.min(50)).any(refused),
+            ),
+            (
+                "another without thicknesses",
+                thin.smallest_refused() != Ok(Some(answer)),
+            ),
+        ];
+        let holding = kinds.into_iter().filter(|&(_, holds)| holds);
+        holding.map(|(kind, _)| kind).collect()
+    }
+
+    #[test]
+    fn crowded_grids_show_divisors_of_every_kind() {
+        let mut random = Random::new(15);
+        let mut counts = BTreeMap::new();
+        for _ in 0..1000 {
+            for kind in crowded_outcomes(&job_of(crowded(&mut random))) {
+                *counts.entry(kind).or_insert(0) += 1;
+            }
+        }
+        assert_eq!(counts.len(), 9, "{counts:?}");
+        assert!(counts.values().all(|&count| count >= 20), "{counts:?}");
+        assert!(counts["between 1 and p"] >= 400, "{counts:?}");
+    }
+
+    #[test]
+    fn jobs_of_crowded_grids_meet_every_job_check() {
+        let mut random = Random::new(16);
+        let counts = outcomes((0..3000).map(|_| crowded(&mut random)));
+        assert!(
+            counts.keys().eq(&["1", "13", "2", "3", "4", "5", "plan"]),
+            "{counts:?}"
+        );
+        assert!(counts.values().all(|&count| count >= 10), "{counts:?}");
     }
 
     #[test]

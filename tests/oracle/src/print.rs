@@ -20,6 +20,18 @@ fn refused(refusal: Refusal) -> String {
     format!("refused {} {}\n", refusal.number, refusal.place)
 }
 
+/// What the program says on standard error of an input that it can read: one line for a job refused
+/// with 5, and nothing for any other.
+pub fn remark(input: &[u8]) -> String {
+    match text::job(input).and_then(|job| job.smallest_refused()) {
+        Ok(Some(divisor)) => format!(
+            "plan: no cuts that fit this grid give every processor equally many tiles in every slab; \
+             the smallest divisor of p for which none do is {divisor}\n"
+        ),
+        Ok(None) | Err(_) => String::new(),
+    }
+}
+
 /// "After the text come the job checks."
 pub fn plan_of(input: &[u8]) -> Result<Plan, Refusal> {
     text::job(input)?.plan()
@@ -162,5 +174,42 @@ mod tests {
             answer(b"2 5 9 9 9 9 9 1 1 1 1 1 1 1 1 1 1 1\n"),
             "refused 10 34\n"
         );
+    }
+
+    /// "The smallest divisor of p for which the same job is refused with 5" (document 02, j).
+    #[test]
+    fn remarks() {
+        assert_eq!(
+            remark(b"12 2 5 5 1 1\n"),
+            "plan: no cuts that fit this grid give every processor equally many tiles in every slab; \
+             the smallest divisor of p for which none do is 6\n"
+        );
+        let figures: [(&[u8], &str); 5] = [
+            (b"2 2 3 3 1 1 4 1\n", " is 1\n"),
+            (b"12 2 9 9 1 1\n", " is 12\n"),
+            (b"3360 3 20 20 20 1 1 1\n", " is 21\n"),
+            (b"4096 2 4096 4095 1 1\n", " is 4096\n"),
+            (b"2 2 6 5 1 1 3 3\n", " is 2\n"),
+        ];
+        for (line, end) in figures {
+            assert_eq!(answer(line), "refused 5 0\n");
+            let remark = remark(line);
+            assert!(remark.ends_with(end), "{remark}");
+            assert_eq!(remark.lines().count(), 1, "{remark}");
+        }
+        let others: [&[u8]; 9] = [
+            b"",
+            b"12 2 12 12 1 1\n",
+            b"12 2 5 5 1 1",
+            b"0 6\n",
+            b"0 5\n",
+            b"12 2 5 5 1\n",
+            b"12 2 5 0 1 1\n",
+            b"12 2 5 5 1 1 1 0\n",
+            b"12 2 5 5 1 1 \n",
+        ];
+        for line in others {
+            assert_eq!(remark(line), "");
+        }
     }
 }

@@ -1,15 +1,17 @@
 //! Runs a program on the inputs of document 01, on all short texts, on lines that arrive in two
 //! parts, on random jobs and on damaged lines, and compares what it prints, byte for byte, with the
-//! oracle's answer. A printed plan is also looked at tile by tile.
+//! oracle's answer; likewise what it says on standard error. A printed plan is also looked at tile by
+//! tile.
 //!
 //!     compare PROGRAM [--seed N] [--count M]
 //!
-//! M is the number of random cases beside the fixed ones; two of three are jobs, the others damaged
-//! lines. The first case that differs is shown, and the exit status is then 1.
+//! M is the number of random cases beside the fixed ones; two of three are jobs, some of them on
+//! crowded grids, the others damaged lines. The first case that differs is shown, and the exit status
+//! is then 1.
 
 use std::env;
-use std::io::{self, Read, Write};
-use std::process::{Command, ExitCode, Stdio};
+use std::io::{self, Write};
+use std::process::{Command, ExitCode, Output, Stdio};
 use std::thread;
 use std::time::{Duration, Instant};
 
@@ -60,10 +62,11 @@ fn write_parts(mut to: impl Write, parts: &[&[u8]]) -> io::Result<()> {
 }
 
 /// What the program prints for an input that arrives in these parts.
-fn run(program: &str, parts: &[&[u8]]) -> io::Result<Vec<u8>> {
+fn run(program: &str, parts: &[&[u8]]) -> io::Result<Output> {
     let mut child = Command::new(program)
         .stdin(Stdio::piped())
         .stdout(Stdio::piped())
+        .stderr(Stdio::piped())
         .spawn()?;
     // An input is far smaller than a pipe, and a program may stop reading before its end.
     let written = child.stdin.take().map(|stdin| write_parts(stdin, parts));
@@ -72,13 +75,10 @@ fn run(program: &str, parts: &[&[u8]]) -> io::Result<Vec<u8>> {
             return Err(error);
         }
     }
-    let mut output = Vec::new();
-    if let Some(mut stdout) = child.stdout.take() {
-        stdout.read_to_end(&mut output)?;
-    }
-    let status = child.wait()?;
+    let mut output = child.wait_with_output()?;
+    let status = output.status;
     if status.code().is_none() {
-        output.extend(format!("({status})").into_bytes());
+        output.stdout.extend(format!("({status})").into_bytes());
     }
     Ok(output)
 }
@@ -86,12 +86,11 @@ fn run(program: &str, parts: &[&[u8]]) -> io::Result<Vec<u8>> {
 /// Compares one case, and says what differs.
 fn compare(program: &str, parts: &[&[u8]], random: &mut Random) -> Result<(), String> {
     let input = &parts.concat();
-    let expected = print::answer(input);
-    let printed = run(program, parts).map_err(|error| format!("{program}: {error}"))?;
-    let printed = String::from_utf8_lossy(&printed);
-    if printed != expected {
-        return Err(difference(&expected, &printed));
-    }
+    let output = run(program, parts).map_err(|error| format!("{program}: {error}"))?;
+    let printed = String::from_utf8_lossy(&output.stdout);
+    let said = String::from_utf8_lossy(&output.stderr);
+    same(&print::answer(input), &printed)?;
+    same(&print::remark(input), &said).map_err(|what| format!("standard error, {what}"))?;
     let planned = print::plan_of(input);
     if let Ok(plan) = &planned {
         let d = plan.dimensions();
@@ -123,6 +122,15 @@ fn second_opinion(input: &[u8]) -> Result<(), String> {
         Err(format!(
             "the oracle's own ways differ: {first:?}, {second:?}"
         ))
+    }
+}
+
+/// Says where two texts differ, if they do.
+fn same(expected: &str, printed: &str) -> Result<(), String> {
+    if printed == expected {
+        Ok(())
+    } else {
+        Err(difference(expected, printed))
     }
 }
 
@@ -164,6 +172,7 @@ fn all_cases(request: &Request) -> Result<usize, String> {
         let input = match fixed.get(at) {
             Some(input) => input.clone(),
             None if random.once_in(3) => cases::damaged(&mut random),
+            None if random.once_in(5) => cases::crowded(&mut random),
             None => cases::job(&mut random),
         };
         compare(&request.program, &[&input], &mut random).map_err(|what| {
