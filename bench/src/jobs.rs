@@ -2,7 +2,7 @@
 
 use crate::plan_list::{list_of, PlanList, PLAN_LENGTH};
 use link::questions::{
-    hypercube, job_for_diagonal, lent, lent_to_probes, plan_list, planned, probe_line,
+    crowded_job, hypercube, job_for_diagonal, lent, lent_to_probes, plan_list, planned, probe_line,
 };
 pub use oracle::plan::Job;
 use oracle::plan::{plan_job, Plan};
@@ -151,6 +151,65 @@ pub fn three_dimensions() -> Vec<Job> {
 /// The job whose printed plan is longest.
 pub fn largest() -> Job {
     roomy(4096, &[1; 5])
+}
+
+/// Jobs with little room, most of them refused with 5, each with a list to lend.
+pub fn any_shares(seed: u64, count: usize) -> Vec<(Job, Vec<u32>)> {
+    let mut random = Random::new(seed);
+    let job = |_| {
+        let mut job = crowded_job(&mut random);
+        if random.once_in(4) {
+            thicken(&mut random, &mut job);
+        }
+        (job, lent(&mut random, 2))
+    };
+    (0..count).map(job).collect()
+}
+
+/// The job of request j.
+pub fn small_share() -> Job {
+    Job {
+        p: 12,
+        d: 2,
+        extents: vec![5; 2],
+        weights: vec![1; 2],
+        least: Vec::new(),
+    }
+}
+
+/// Jobs whose smallest refused share takes long to find: among the longest of a search over extents and weights, for
+/// counts with many divisors and for 4,095 and 4,096. All are refused for p alone, so that every divisor is planned.
+pub fn hard_shares() -> Vec<Job> {
+    let four: [(u32, [u32; 4], [u32; 4]); 3] = [
+        (2520, [314, 419, 59, 1], [0, 0, 96_352, 45_655]),
+        (3360, [419, 167, 83, 1], [0, 0, 24_341, 53_729]),
+        (3960, [329, 59, 329, 2], [0, 0, 1, 2_961_875]),
+    ];
+    let five: [(u32, [u32; 5], [u32; 5]); 13] = [
+        (2520, [55, 419, 419, 1, 1], [0, 1, 1, 1, 43_003_125]),
+        (2520, [209, 29, 209, 4, 1], [1, 10, 100, 1000, 10_000]),
+        (3360, [239, 119, 239, 1, 1], [0, 0, 1, 0, 0]),
+        (3360, [839, 55, 167, 1, 1], [0, 1, 1, 1, 43_003_125]),
+        (3360, [139, 139, 139, 3, 1], [1, 10, 100, 10_000, 1000]),
+        (3600, [1_000_000, 71, 59, 1, 1], [0, 0, 1, 1, 1]),
+        (3780, [314, 89, 314, 1, 1], [0, 0, 1, 0, 0]),
+        (3780, [209, 209, 209, 1, 1], [91, 64, 60, 85, 32]),
+        (3960, [131, 131, 131, 5, 1], [1, 10, 100, 1000, 5000]),
+        (4032, [335, 111, 167, 1, 1], [0, 0, 0, 41_699, 70_145]),
+        (4080, [169, 339, 119, 3, 1], [1, 10, 100, 1000, 10_000]),
+        (4095, [454, 818, 90, 2, 2], [1, 0, 21, 0, 0]),
+        (4096, [1_000_000, 31, 255, 1, 1], [1, 10, 100, 1000, 10_000]),
+    ];
+    let job = |p, extents: &[u32], weights: &[u32]| Job {
+        p,
+        d: extents.len() as u32,
+        extents: extents.to_vec(),
+        weights: weights.to_vec(),
+        least: Vec::new(),
+    };
+    let four = four.iter().map(|(p, e, w)| job(*p, e, w));
+    let five = five.iter().map(|(p, e, w)| job(*p, e, w));
+    four.chain(five).collect()
 }
 
 /// Jobs for diagonal plans, accepted and refused, each with a list to lend.

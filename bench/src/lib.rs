@@ -13,6 +13,7 @@ pub mod plan_list;
 pub mod planning;
 pub mod probes;
 pub mod questions;
+pub mod shares;
 pub mod subject;
 pub mod timetable;
 pub mod timing;

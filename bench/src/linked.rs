@@ -24,6 +24,7 @@ fn plan(p: u32, d: u32, extents: &[u32], weights: &[u32], least: &[u32]) -> Plan
 pub const PROVED: Subject = Subject {
     name: "proved",
     plan,
+    smallest_refused: calls::smallest_refused,
     diagonal: calls::diagonal,
     hypercube_owner: calls::hypercube_owner,
     owner: |plan, position, answer| told(calls::owner(plan, position, answer)),

@@ -17,8 +17,9 @@ use bench::linked::PROVED;
 use bench::plan_list::{tiles, COST_LOW, LEAST, PLAN_LENGTH, PROCESSORS, WEIGHTS};
 use bench::planning;
 use bench::probes::slabs_by_division;
+use bench::shares;
 use bench::subject::{
-    ChainCall, DiagonalCall, PlanCall, Planned, ProbeCall, Returned, Subject, Told, RIVAL,
+    ChainCall, JobCall, PlanCall, Planned, ProbeCall, Returned, Subject, Told, RIVAL,
 };
 use bench::timing::{contest, contest_of_commands, least_seconds, print_head, print_line, Contest};
 
@@ -55,6 +56,7 @@ fn main() -> ExitCode {
     thicknesses(repeats);
     planning_otherwise(repeats);
     longest_jobs();
+    refused_shares(repeats);
     diagonals(repeats);
     hypercube_owners(repeats);
     questions(repeats);
@@ -275,8 +277,67 @@ fn compare<Side>(
     assert!(told.all(|other| Some(other) == first), "{what}");
 }
 
-fn lay(call: DiagonalCall, job: &Job, list: &mut [u32]) -> Returned {
+/// Calls with a job and a list for the answer.
+fn lend(call: JobCall, job: &Job, list: &mut [u32]) -> Returned {
     black_box(call)(job.p, job.d, &job.extents, &job.weights, &job.least, list)
+}
+
+/// The smallest share that is refused too, after a comparison of many jobs and of refusals: that of the request's own
+/// job; and of jobs that take long, each by the least time of some runs, the time in the middle and the longest. No job
+/// may take more than 25 ms.
+fn refused_shares(repeats: usize) {
+    let calls = [
+        PROVED.smallest_refused,
+        RIVAL.smallest_refused,
+        shares::by_fitting,
+    ];
+    let [ours, theirs, by_fitting] = calls;
+    let hard = jobs::hard_shares();
+    let lent = |job: &Job| (job.clone(), vec![7; 2]);
+    let any = jobs::any_shares(9, 20_000);
+    for (job, lent) in any.into_iter().chain(hard.iter().map(lent)) {
+        let what = format!("{job:?}");
+        compare(&what, &lent, &calls, |&call, list| lend(call, &job, list));
+    }
+    let find = |call: JobCall, job: &Job| {
+        let mut answer = [0; 2];
+        assert_eq!(lend(call, job, &mut answer), 0, "{job:?}");
+        u64::from(answer[1])
+    };
+    let middle_and_longest = |call: JobCall| {
+        let time = |job| least_seconds(9, || find(call, job));
+        let mut times: Vec<f64> = hard.iter().map(time).collect();
+        times.sort_by(f64::total_cmp);
+        [times[times.len() / 2], times[times.len() - 1]]
+    };
+    let line = |what: &str, ours: f64, theirs: f64, target: Option<f64>| {
+        print_line(&Contest {
+            what: format!("smallest refused share, {what}"),
+            ours: vec![ours],
+            theirs: vec![theirs],
+            target,
+        });
+    };
+    let small = jobs::small_share();
+    let [middle, longest] = middle_and_longest(ours);
+    for (beside, rival) in [("", theirs), (", beside fitting alone", by_fitting)] {
+        print_line(&contest(
+            &format!("smallest refused share, 12 on 5 5{beside}"),
+            None,
+            1,
+            repeats,
+            || find(ours, &small),
+            || find(rival, &small),
+        ));
+        let [middle_of_theirs, longest_of_theirs] = middle_and_longest(rival);
+        for (what, ours, theirs) in [
+            ("middle job", middle, middle_of_theirs),
+            ("longest job", longest, longest_of_theirs),
+        ] {
+            line(&format!("{what}{beside}"), ours, theirs, None);
+        }
+    }
+    line("longest job, beside 25 ms", longest, 25e-3, Some(1.0));
 }
 
 /// Diagonal plans on the grids that they just fit, after a comparison of many others and of refusals.
@@ -289,17 +350,17 @@ fn diagonals(repeats: usize) {
     let [ours, theirs, for_each_d] = calls;
     for (job, lent) in jobs::any_diagonals(3, 20_000) {
         let what = format!("{job:?}");
-        compare(&what, &lent, &calls, |&call, list| lay(call, &job, list));
+        compare(&what, &lent, &calls, |&call, list| lend(call, &job, list));
     }
     for (what, jobs) in jobs::diagonals(4, 1000) {
         for job in &jobs {
             let lent = [7; PLAN_LENGTH];
-            compare(what, &lent, &calls, |&call, list| lay(call, job, list));
+            compare(what, &lent, &calls, |&call, list| lend(call, job, list));
         }
-        let all = |call: DiagonalCall| {
+        let all = |call: JobCall| {
             let mut list = [0; PLAN_LENGTH];
             let costs = jobs.iter().map(|job| {
-                assert_eq!(lay(call, job, &mut list), 0, "{what}");
+                assert_eq!(lend(call, job, &mut list), 0, "{what}");
                 u64::from(list[COST_LOW])
             });
             costs.sum()

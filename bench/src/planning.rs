@@ -5,7 +5,8 @@
 //! [`figure_2_nested`] is the same with the paper's program run anew for every combination.
 //! [`remembered`] chooses the cuts dimension after dimension and remembers its answers. All choose by
 //! cost, then by the number of tiles, then by the smaller cut at the first dimension that differs.
-//! A cut fits if it is at most the extent divided by the least thickness, rounded down.
+//! [`fitting`] only says whether there are any to choose from. A cut fits if it is at most the extent
+//! divided by the least thickness, rounded down.
 
 use crate::plan_list::{
     COST_HIGH, COST_LOW, CUTS, DIMENSIONS, EXTENTS, LEAST, MATRIX, MODULI, PLAN_LENGTH, PROCESSORS,
@@ -14,8 +15,11 @@ use crate::plan_list::{
 use crate::subject::Planned;
 
 mod figure_2;
+mod fitting;
 mod nested;
 mod remembered;
+
+pub use remembered::divisors;
 
 /// What the choice of cuts depends on. Its lists have five places each, zero past d.
 struct Job {
@@ -71,6 +75,22 @@ pub fn figure_2_nested(p: u32, d: u32, extents: &[u32], weights: &[u32], least: 
 pub fn remembered(p: u32, d: u32, extents: &[u32], weights: &[u32], least: &[u32]) -> Planned {
     let job = check(p, d, extents, weights, least)?;
     finish(&job, extents, least, remembered::cheapest(&job))
+}
+
+/// The refusals of planning alone.
+pub fn fitting(
+    p: u32,
+    d: u32,
+    extents: &[u32],
+    weights: &[u32],
+    least: &[u32],
+) -> Result<(), (u32, u32)> {
+    let job = check(p, d, extents, weights, least)?;
+    if fitting::some_fit(&job) {
+        Ok(())
+    } else {
+        Err((5, 0))
+    }
 }
 
 /// Refusals 1 to 4 and 13. It becomes part of its callers, so that no job is moved.
@@ -233,6 +253,8 @@ mod tests {
                 let planned = way(job.p, job.d, &job.extents, &job.weights, &job.least);
                 assert_eq!(planned, expected, "{job:?}");
             }
+            let fitting = fitting(job.p, job.d, &job.extents, &job.weights, &job.least);
+            assert_eq!(fitting, expected.map(|_| ()), "{job:?}");
             let number = expected.map_or_else(|(number, _)| number, |_| 0);
             seen[usize::from(!job.least.is_empty())][number as usize] += 1;
         }

@@ -1,7 +1,7 @@
 //! What is measured: the calls of one side, as functions over plain lists.
 
 use crate::plan_list::PlanList;
-use crate::{chains, diagonal, hypercube, planning, probes, questions, timetable};
+use crate::{chains, diagonal, hypercube, planning, probes, questions, shares, timetable};
 
 /// A refusal's number, or nothing where the answer list has been written.
 pub type Told = Result<(), u32>;
@@ -14,7 +14,8 @@ pub type Planned = Result<PlanList, (u32, u32)>;
 pub type Returned = u64;
 
 pub type PlanCall = fn(u32, u32, &[u32], &[u32], &[u32]) -> Planned;
-pub type DiagonalCall = fn(u32, u32, &[u32], &[u32], &[u32], &mut [u32]) -> Returned;
+/// A job and the list for the answer.
+pub type JobCall = fn(u32, u32, &[u32], &[u32], &[u32], &mut [u32]) -> Returned;
 pub type ProbeCall = fn(&[u32], u32, &[u32], &mut [u32]) -> Returned;
 pub type ChainCall = fn(&[u32], &mut [u32], &mut [u32]) -> Told;
 pub type StepCall = fn(&[u32], &[u32], u32, bool, &mut [u32]) -> Told;
@@ -25,7 +26,8 @@ pub type TimetableCall = fn(&[u32], u32, bool, u32, u32, &mut [u32]) -> Told;
 pub struct Subject {
     pub name: &'static str,
     pub plan: PlanCall,
-    pub diagonal: DiagonalCall,
+    pub smallest_refused: JobCall,
+    pub diagonal: JobCall,
     pub hypercube_owner: fn(u32, &[u32], &mut [u32]) -> Returned,
     pub owner: fn(&[u32], &[u32], &mut [u32]) -> Told,
     pub neighbour: fn(&[u32], u32, u32, bool, &mut [u32]) -> Told,
@@ -39,12 +41,13 @@ pub struct Subject {
     pub chains: ChainCall,
 }
 
-/// The rival: the paper's enumeration (Figure 2, one factor inside the other), the two older layouts by their
-/// formulas, the questions with the same checks, probe lines and the timetable by the same method, and the fastest
-/// chains tile by tile.
+/// The rival: the paper's enumeration (Figure 2, one factor inside the other), the smallest refused share by plans of a
+/// quicker kind, the two older layouts by their formulas, the questions with the same checks, probe lines and the
+/// timetable by the same method, and the fastest chains tile by tile.
 pub const RIVAL: Subject = Subject {
     name: "rival",
     plan: planning::figure_2_nested,
+    smallest_refused: shares::by_plans,
     diagonal: diagonal::diagonal,
     hypercube_owner: hypercube::owner,
     owner: questions::owner,

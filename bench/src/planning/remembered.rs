@@ -9,7 +9,7 @@ const MOST_DIVISORS: usize = 48;
 const NONE: u64 = u64::MAX;
 
 /// The divisors of p in rising order, and how many there are.
-fn divisors(p: u32) -> ([u32; MOST_DIVISORS], usize) {
+pub fn divisors(p: u32) -> ([u32; MOST_DIVISORS], usize) {
     let mut list = [0; MOST_DIVISORS];
     list[0] = 1;
     let mut count = 1;
@@ -79,7 +79,7 @@ pub fn cheapest(job: &Job) -> Option<(u64, Cuts)> {
 /// The state after a cut b that divides a: the product of the later cuts is to be a multiple of the
 /// first number, that of all but any one of them of the second.
 #[inline]
-fn after_cut(a: u32, e: u32, b: u32) -> (u32, u32) {
+pub fn after_cut(a: u32, e: u32, b: u32) -> (u32, u32) {
     if e == 1 {
         (a / b, 1)
     } else {
