@@ -15,6 +15,8 @@
  * - The cuts that multipartition_plan writes are the cheapest of all even cuts that fit, where a dimension costs (cut - 1) * weight; among equal costs
  *   those with the fewest tiles, and among these the ones with the smaller cut at the first dimension that differs. Cuts fit if each cut times the
  *   least thickness of its dimension is at most the extent. An empty list of least thicknesses and a list of ones get the same plan.
+ * - For a job that multipartition_plan refuses with 5, and for no other, multipartition_smallest_refused shows a divisor of p. For it the same job is
+ *   refused with 5, and for every divisor of p that it divides; for every smaller divisor of p the job is accepted.
  * - In every plan list in shape the slabs of a dimension hold each of its elements once, and multipartition_slab_of names the slab that holds it. The
  *   first (extent modulo cut) slabs have one element more than the others; so no slab has more elements than one before it, nor fewer than the extent
  *   divided by the cut, rounded down, and two of them differ by at most one. Every slab has at least the least thickness of its dimension.
@@ -168,7 +170,7 @@ uint64_t multipartition_plan(uint32_t processors, uint32_t dimensions,
                              uint32_t *plan, size_t plan_length);
 
 /* How far down to go: for a job that multipartition_plan refuses with 5, the smallest divisor of p for which the same job is refused with 5. It may be
- * 1, where no slab is as thick as it must be, and p itself. Every smaller divisor of p is accepted, and every divisor of p that is a multiple of it is
+ * 1, where a least thickness is above its extent, and p itself. Every smaller divisor of p is accepted, and every divisor of p that is a multiple of it is
  * refused with 5 too. For an accepted job there is nothing to show. The arguments are those of multipartition_plan. Refused with 1, 2, 3, 4, 13,
  * then 9. */
 uint64_t multipartition_smallest_refused(uint32_t processors, uint32_t dimensions,
