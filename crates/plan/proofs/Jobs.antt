@@ -7,10 +7,10 @@ use native.Mathlib.Omega.{arith}
 use lib.ListN.{length, take, drop, getD, length-take, length-drop, drop-of-length-le}
 use lib.Seq.{take-all, take-add, drop-at, getD-take, length-take-le}
 use Rattle.numerals.proofs.Decimal.{lt-or-le}
-use Rattle.multipartition.specs.Answers.{answered}
-use Rattle.multipartition.specs.Plans.{leastOf}
+use Rattle.multipartition.specs.Answers.{Answer, answered}
+use Rattle.multipartition.specs.Plans.{Job, leastOf, jobWith}
 use Rattle.multipartition.proofs.Jobs.{least-many-iff}
-use Rattle.plan.specs.Prints.{jobAnswer, programAnswer}
+use Rattle.plan.specs.Prints.{jobOfLine, programAnswer}
 
 -- "refusal 3 means neither 2·d nor 3·d after d"
 pub parts-iff : (d : ℕ) (numbers : List ℕ)
@@ -69,18 +69,36 @@ drop-lesser d numbers = ⊎-elim shorter longer (lt-or-le d (length numbers))
         drop-of-length-le numbers some ∙ rw (drop-of-length-le numbers h)
 
 -- the first d of a list, and those behind them
-pub front-part : (d : ℕ) (numbers : List ℕ) (m : ℕ) → m ≡ min d (length numbers) → take m numbers ≡ take d numbers
+front-part : (d : ℕ) (numbers : List ℕ) (m : ℕ) → m ≡ min d (length numbers) → take m numbers ≡ take d numbers
 front-part d numbers m e = ap (λ (n : ℕ). take n numbers) e ∙ take-lesser d numbers
 
-pub back-part : (d : ℕ) (numbers : List ℕ) (m : ℕ) → m ≡ min d (length numbers) → take (length numbers - m) (drop m numbers) ≡ drop d numbers
+back-part : (d : ℕ) (numbers : List ℕ) (m : ℕ) → m ≡ min d (length numbers) → take (length numbers - m) (drop m numbers) ≡ drop d numbers
 back-part d numbers m e =
     take-all (length numbers - m) (drop m numbers) (omega (arith, length-drop m numbers)) ∙ ap (λ (n : ℕ). drop n numbers) e ∙ drop-lesser d numbers
 
+-- the job, of parts that are cut where there are so many numbers
+pub job-of-parts : (p d : ℕ) (numbers others : List ℕ) (first second : ℕ) → first ≡ min d (length numbers)
+    → others ≡ take (length numbers - first) (drop first numbers) → second ≡ min d (length others)
+    → jobWith p d (take first numbers) (take second others) (take (length others - second) (drop second others)) ≡ jobOfLine p d numbers
+unfolding jobOfLine
+job-of-parts p d numbers others first second f is s =
+    same
+    (front-part d numbers first f)
+    (front-part d others second s ∙ ap (take d) behind)
+    (back-part d others second s ∙ ap (drop d) behind)
+  where
+    behind : others ≡ drop d numbers
+    behind = is ∙ back-part d numbers first f
+
+    same : {extents extents′ weights weights′ given given′ : List ℕ} → extents ≡ extents′ → weights ≡ weights′ → given ≡ given′
+        → jobWith p d extents weights given ≡ jobWith p d extents′ weights′ given′
+    same e w g = λ i. jobWith p d (e i) (w i) (g i)
+
 -- the answer to the numbers of a line: they are the first `count` places of a list
-pub program-numbers : (count : ℕ) (numbers : List ℕ) → 2 ≤ count → count ≤ length numbers
-    → programAnswer (answered (take count numbers)) ≡ jobAnswer (getD numbers 0 0) (getD numbers 1 0) (take (count - 2) (drop 2 numbers))
+pub program-numbers : {A : Type 0} (ask : Job → Answer A) (count : ℕ) (numbers : List ℕ) → 2 ≤ count → count ≤ length numbers
+    → programAnswer ask (answered (take count numbers)) ≡ ask (jobOfLine (getD numbers 0 0) (getD numbers 1 0) (take (count - 2) (drop 2 numbers)))
 unfolding programAnswer
-program-numbers count numbers h l = rw (getD-take count numbers 0 0 (omega arith), getD-take count numbers 1 0 (omega arith), after)
+program-numbers ask count numbers h l = rw (getD-take count numbers 0 0 (omega arith), getD-take count numbers 1 0 (omega arith), after)
   where
     two : count ≡ 2 + (count - 2)
     two = omega arith

@@ -1,25 +1,29 @@
--- The program's two lists are long enough: what is read settles what is printed, and all of it is printed.
+-- The program's three lists are long enough: what is read settles what is written, and all of it is written.
 use mathlib.Core.Path.{_≡_, refl, sym, ap, _∙_, subst}
 use mathlib.Core.Bool.{true}
 use mathlib.Core.List.{List, [], _∷_}
+use mathlib.Core.Option.{Option, none, some}
 use mathlib.Core.Logic.{inl, inr, ⊎-elim}
 use Prim.Native.Nat.{ℕ, suc, _+_, _*_, _^_, _≤_, _<_}
+use native.Mathlib.Nat.{le-of-dvd}
 use native.Mathlib.Omega.{arith}
 use lib.ListN.{length, take, drop, getD, length-append, length-take, length-drop, List·getD-eq-default}
 use lib.Seq.{getD-take, getD-drop}
-use Rattle.numerals.proofs.Decimal.{lt-or-le}
+use Rattle.numerals.proofs.Decimal.{lt-or-le, length-decimal}
 use Rattle.multipartition.specs.Answers.{Answer, answered, refused}
 use Rattle.multipartition.specs.Cuts.{costOf}
 use Rattle.multipartition.specs.Plans.{Job, Layout, jobWith, inShape}
 use Rattle.multipartition.specs.Jobs.{PlanFor, firstOutside, firstZero, planAnswer}
 use Rattle.multipartition.proofs.Answers.{Small}
 use Rattle.multipartition.proofs.Order.{cutCost-le}
-use Rattle.multipartition.proofs.Jobs.{plan-answered, plan-in-shape, plan-small, firstOutside-le, firstZero-le}
+use Rattle.multipartition.proofs.Jobs.{plan-answered, plan-in-shape, plan-small, passed-of-five, firstOutside-le, firstZero-le}
 use Rattle.multipartition.proofs.Chosen.{chosen-cut-le}
 use Rattle.layout.specs.Plans.{layoutOf, planOf}
 use Rattle.layout.specs.Sized.{Sized}
 use Rattle.layout.proofs.Plans.{layout-of-plan}
 use Rattle.layout.proofs.Shaped.{shaped}
+use Rattle.refused_share.specs.Shares.{shareAnswer}
+use Rattle.refused_share.proofs.Shares.{shown}
 use Rattle.job_text.specs.Readable.{largest, Place, Finds}
 use Rattle.job_text.proofs.Bounds.{all-at}
 use Rattle.job_text.proofs.Finds.{finds-unique}
@@ -27,32 +31,38 @@ use Rattle.job_text.proofs.Front.{longestLine, finds-front}
 use Rattle.plan_text.specs.declared.Printed.{Printed}
 use Rattle.plan_text.specs.declared.Printed.the-variants.{Bytes, Refused}
 use Rattle.plan_text.specs.PlanText.{planText, answerText}
-use Rattle.plan_text.specs.Told.{textAnswer, toldPrinted, lengthOf, afterwards}
+use Rattle.plan_text.specs.Told.{textAnswer, toldPrinted, lengthOf, afterwards, Hands}
 use Rattle.plan_text.proofs.Lengths.{longestPlan, length-plan-text, length-refused-text}
-use Rattle.plan_text.proofs.Handing.{text-fits}
-use Rattle.plan.specs.Prints.{jobAnswer, programAnswer, Prints, Answers, Runs}
+use Rattle.plan_text.proofs.Handing.{text-fits, hands-text}
+use Rattle.plan.specs.declared.Texts.{Texts}
+use Rattle.plan.specs.ShareText.{shareText}
+use Rattle.plan.specs.Prints.{jobOfLine, programAnswer, Prints, Answers, InFront, Runs}
 use Rattle.planner.proofs.Answers.{plan-sized}
 
 -- ---- the input
 
--- there is one text that is printed for an input
-pub prints-unique : (input a b : List ℕ) → Prints input a → Prints input b → a ≡ b
-prints-unique input a b h k =
-    h .prints
-    ∙ ap (λ (r : Answer (List ℕ)). answerText (programAnswer r)) (finds-unique input (h .read) (k .read) (h .finds) (k .finds))
-    ∙ sym (k .prints)
+-- one text is printed for an input, and one is told
+pub prints-unique : (input a b c d : List ℕ) → Prints input a b → Prints input c d → (a ≡ c) × (b ≡ d)
+prints-unique input a b c d h k = (
+  h .prints ∙ ap (λ (r : Answer (List ℕ)). answerText (programAnswer planAnswer r)) same ∙ sym (k .prints),
+  h .tells ∙ ap (λ (r : Answer (List ℕ)). shareText (programAnswer shareAnswer r)) same ∙ sym (k .tells),
+)
+  where
+    same : h .read ≡ k .read
+    same = finds-unique input (h .read) (k .read) (h .finds) (k .finds)
 
--- more bytes than the longest line has settle it
-pub prints-front : (input bytes : List ℕ) (n : ℕ) → longestLine < n → Prints (take n input) bytes → Prints input bytes
-prints-front input bytes n h p = record { read = p .read; finds = finds-front input n h (p .read) (p .finds); prints = p .prints }
+-- more bytes than the longest line has settle them
+pub prints-front : (input printed told : List ℕ) (n : ℕ) → longestLine < n → Prints (take n input) printed told → Prints input printed told
+prints-front input printed told n h p =
+    record { read = p .read; finds = finds-front input n h (p .read) (p .finds); prints = p .prints; tells = p .tells }
 
--- ---- the output: a refusal
+-- ---- standard output: a refusal
 
 place-le : (text : List ℕ) (k : ℕ) → Place text k → k ≤ length text + 1
 place-le text k (inl a) = let within = a .0 .0 in omega arith
 place-le text k (inr a) = let e = a .1 in omega arith
 
--- ---- the output: a plan
+-- ---- standard output: a plan
 
 cost-le : (c w : ℕ) (weights cuts : List ℕ) → ((i : ℕ) → getD weights i 0 ≤ w) → ((i : ℕ) → getD cuts i 0 ≤ c) → costOf weights cuts ≤ length cuts * (c * w)
 cost-le c w [] cuts h k = omega arith
@@ -110,11 +120,11 @@ length-job job extent thickness small = go (planAnswer job) refl (plan-small job
     go (refused number place) e h = omega (arith, length-refused-text 2 number place (omega (arith, h .1)) (omega (arith, h .2)))
 
 -- for an input of 256 bytes at most
-pub prints-length : (input bytes : List ℕ) → length input ≤ 256 → Prints input bytes → length bytes ≤ longestPlan
-unfolding answerText programAnswer jobAnswer
-prints-length input bytes few p = rw (p .prints) (go (p .read) (p .finds))
+pub prints-length : (input printed told : List ℕ) → length input ≤ 256 → Prints input printed told → length printed ≤ longestPlan
+unfolding answerText programAnswer jobOfLine
+prints-length input printed told few p = rw (p .prints) (go (p .read) (p .finds))
   where
-    go : (read : Answer (List ℕ)) → Finds input read → length (answerText (programAnswer read)) ≤ longestPlan
+    go : (read : Answer (List ℕ)) → Finds input read → length (answerText (programAnswer planAnswer read)) ≤ longestPlan
     go (answered numbers) f =
         let d = getD numbers 1 0 in
         let rest : List ℕ = drop 2 numbers in
@@ -128,30 +138,76 @@ prints-length input bytes few p = rw (p .prints) (go (p .read) (p .finds))
         let ten = f .1 in
         omega (arith, length-refused-text 2 number place (omega arith) (omega arith))
 
--- ---- the program between its two lists
+-- ---- standard error
 
-module _ {read lent list : List ℕ} {printed : Printed} (a : Answers read printed lent list) (few : length read ≤ 256) (room : longestPlan ≤ length lent) where
-  fits : textAnswer (a .bytes) (length lent) ≡ answered (a .bytes)
-  fits = text-fits (a .bytes) (length lent) (omega (arith, prints-length read (a .bytes) few (a .right)))
+-- so many bytes hold the words, four digits and a newline
+abbrev pub longestTold : ℕ
+longestTold = 140
+
+-- a divisor of p has no more digits than p
+share-le : (job : Job) (x : ℕ) → shareAnswer job ≡ answered (some x) → x ≤ 4096
+share-le job x e =
+    let (five, smallest) = shown job x e in
+    let range = passed-of-five job 0 five .range in
+    omega (arith, le-of-dvd (range .p-low) (smallest .divides), range .p-high)
+
+length-share : (job : Job) → length (shareText (shareAnswer job)) ≤ longestTold
+unfolding shareText
+length-share job = go (shareAnswer job) refl
+  where
+    go : (a : Answer (Option ℕ)) → shareAnswer job ≡ a → length (shareText a) ≤ longestTold
+    go (answered (some x)) e =
+        let digits = length-decimal 3 x (omega (arith, share-le job x e)) in
+        simp length-append (omega arith)
+    go (answered none) e = omega arith
+    go (refused number place) e = omega arith
+
+pub tells-length : (input printed told : List ℕ) → Prints input printed told → length told ≤ longestTold
+unfolding shareText programAnswer
+tells-length input printed told p = rw (p .tells) (go (p .read))
+  where
+    go : (read : Answer (List ℕ)) → length (shareText (programAnswer shareAnswer read)) ≤ longestTold
+    go (answered numbers) = length-share (jobOfLine (getD numbers 0 0) (getD numbers 1 0) (drop 2 numbers))
+    go (refused number place) = omega arith
+
+-- ---- the program between its three lists
+
+module _ (text : List ℕ) {lent list : List ℕ} (room : length text ≤ length lent) where
+  told-whole : {printed : Printed} → Hands (textAnswer text (length lent)) printed lent list → toldPrinted printed ≡ answered (length text)
+  told-whole h = h .told ∙ ap lengthOf (text-fits text (length lent) room)
+
+  front-handed : {count : ℕ} → Hands (textAnswer text (length lent)) (Bytes count) lent list → InFront text lent list count
+  front-handed h =
+      let told = told-whole h in
+      record { held = h .held ∙ ap (λ (answer : Answer (List ℕ)). afterwards answer lent) (text-fits text (length lent) room); counted = cc }
+
+module _ {read lent list lent′ list′ : List ℕ} {texts : Texts} (a : Answers read texts lent list lent′ list′) (few : length read ≤ 256)
+    (room : longestPlan ≤ length lent) (room′ : longestTold ≤ length lent′) where
+  fits : length (a .printed) ≤ length lent
+  fits = omega (arith, prints-length read (a .printed) (a .told) few (a .right))
+
+  fits′ : length (a .told) ≤ length lent′
+  fits′ = omega (arith, tells-length read (a .printed) (a .told) (a .right))
 
   -- so nothing is refused
-  pub never-refused : (number place : ℕ) → printed ≡ Refused number place → ⊥
+  pub never-refused : (number place : ℕ) → texts .printed ≡ Refused number place → ⊥
   never-refused number place e =
-      let told : refused number place ≡ answered (length (a .bytes)) = sym (ap toldPrinted e) ∙ a .handed .told ∙ ap lengthOf fits in
+      let told : refused number place ≡ answered (length (a .printed)) = sym (ap toldPrinted e) ∙ told-whole (a .printed) fits (a .handed) in
       let clash : _≡_ {A = ℕ} 0 1 = cc in
       absurd (omega arith)
 
-  -- and what is printed for the front of an input is printed for the whole of it
-  pub runs-whole : (places count : ℕ) → longestLine < places → printed ≡ Bytes count → Runs places read lent list count
-  runs-whole places count enough e =
-      let told : answered count ≡ answered (length (a .bytes)) = sym (ap toldPrinted e) ∙ a .handed .told ∙ ap lengthOf fits in
-      record {
-        bytes = a .bytes;
-        right = λ input front. prints-front input (a .bytes) places enough (subst (λ (t : List ℕ). Prints t (a .bytes)) (sym front) (a .right));
-        held = a .handed .held ∙ ap (λ (answer : Answer (List ℕ)). afterwards answer lent) fits;
-        counted = cc;
-      }
+  -- and what is written for the front of an input is written for the whole of it
+  pub runs-whole : {front : List ℕ} (places count : ℕ) → read ≡ front → longestLine < places → texts .printed ≡ Bytes count
+      → Runs places front lent list lent′ list′ (record { printed = count; told = texts .told })
+  runs-whole places count same enough e = record {
+    printed = a .printed;
+    told = a .told;
+    right = λ input front.
+        prints-front input (a .printed) (a .told) places enough (subst (λ (t : List ℕ). Prints t (a .printed) (a .told)) (same ∙ sym front) (a .right));
+    output = front-handed (a .printed) fits (subst (λ (p : Printed). Hands (textAnswer (a .printed) (length lent)) p lent list) e (a .handed));
+    error = front-handed (a .told) fits′ (hands-text fits′ (a .written));
+  }
 
-pub runs-within : {places count : ℕ} {read lent list : List ℕ} → Runs places read lent list count → count ≤ length list
-runs-within {places} {count} {read} {lent} {list} r =
-    omega (arith, r .counted, ap length (r .held), length-append (r .bytes) (drop (length (r .bytes)) lent))
+pub front-within : {bytes lent list : List ℕ} {count : ℕ} → InFront bytes lent list count → count ≤ length list
+front-within {bytes} {lent} {list} {count} f =
+    omega (arith, f .counted, ap length (f .held), length-append bytes (drop (length bytes) lent))

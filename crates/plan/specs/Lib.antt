@@ -1,2 +1,3 @@
+pub mod ShareText
 pub mod Prints
 pub mod Printed

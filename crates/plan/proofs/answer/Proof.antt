@@ -28,50 +28,57 @@ returns c =
     let job = told .before .before in
     answers-unreadable (job .read-job .result) (job .read-job .ensures) (told .enum-told .given .1) (printed .print-refused .ensures)
 
-array-read-plan-numbers : tie.Need-array-read-plan-numbers
-array-read-plan-numbers c = search needs
+array-read-ask : tie.Need-array-read-ask
+array-read-ask c = search needs
 
-array-read-plan-numbers-2 : tie.Need-array-read-plan-numbers-2
-array-read-plan-numbers-2 c = search needs
+array-read-ask-2 : tie.Need-array-read-ask-2
+array-read-ask-2 c = search needs
 
-cast-plan-numbers : tie.Need-cast-plan-numbers
-cast-plan-numbers c = search needs
+cast-ask : tie.Need-cast-ask
+cast-ask c = search needs
 
-sub-plan-numbers : tie.Need-sub-plan-numbers
-sub-plan-numbers c =
+sub-ask : tie.Need-sub-ask
+sub-ask c =
     let line = c .before .before in
     let job = line .before .before in
     omega (arith, count-enough _ (job .read-job .result) (job .read-job .ensures) (line .line .given .0 .0) (line .line .given .1))
 
-part-plan-numbers-start : tie.Need-part-plan-numbers-start
-part-plan-numbers-start c =
+part-ask-start : tie.Need-part-ask-start
+part-ask-start c =
     let line = c .before .before .before in
     let job = line .before .before in
     omega (arith, count-enough _ (job .read-job .result) (job .read-job .ensures) (line .line .given .0 .0) (line .line .given .1))
 
-part-plan-numbers-end : tie.Need-part-plan-numbers-end
-part-plan-numbers-end c =
+part-ask-end : tie.Need-part-ask-end
+part-ask-end c =
     let line = c .before .before .before in
     let job = line .before .before in
     omega (arith, count-within _ (job .read-job .result) (job .read-job .ensures) (line .line .given .0 .0) (line .line .given .1))
 
-plan-numbers-requires : tie.Need-plan-numbers-requires
-plan-numbers-requires c κs = search needs
+ask-requires : tie.Need-ask-requires
+ask-requires c κs = search needs
 
 print-planned-requires : tie.Need-print-planned-requires
 print-planned-requires c κs = search needs
 
+put-share-requires : tie.Need-put-share-requires
+put-share-requires c κs = search needs
+
 same-length-2 : tie.Need-same-length-2
 same-length-2 c = search needs
 
+same-length-3 : tie.Need-same-length-3
+same-length-3 c = search needs
+
 returns-2 : tie.Need-returns-2
 returns-2 c =
-    let printed = c .before .before in
-    let planned = printed .before .before in
-    let line = planned .before .before .before .before .before in
+    let told = c .before .before in
+    let printed = told .before .before .before .before in
+    let asked = printed .before .before .before in
+    let line = asked .before .before .before .before .before in
     let job = line .before .before in
-    answers-numbers (job .read-job .result) (job .read-job .ensures) (line .line .given .0 .0) (planned .plan-numbers .result) (line .line .given .1)
-    (planned .plan-numbers .ensures) (printed .print-planned .ensures)
+    answers-numbers (job .read-job .result) (job .read-job .ensures) (line .line .given .0 .0) (asked .ask .result) (line .line .given .1) (asked .ask .ensures)
+    (printed .print-planned .ensures) (told .put-share .ensures)
 
 pub answer-spec : {M : Type 1} → statement M
 answer-spec =
@@ -83,13 +90,15 @@ answer-spec =
     print-refused-requires
     same-length
     returns
-    array-read-plan-numbers
-    array-read-plan-numbers-2
-    cast-plan-numbers
-    sub-plan-numbers
-    part-plan-numbers-start
-    part-plan-numbers-end
-    plan-numbers-requires
+    array-read-ask
+    array-read-ask-2
+    cast-ask
+    sub-ask
+    part-ask-start
+    part-ask-end
+    ask-requires
     print-planned-requires
+    put-share-requires
     same-length-2
+    same-length-3
     returns-2)

@@ -1,8 +1,8 @@
--- `plan::main` writes no more than the list holds.
+-- `plan::main` writes no more than the lists hold.
 use mathlib.Core.Path.{sym}
 use lib.Seq.{length-take-le}
 use borrow.Author.Needs.{needs}
-use Rattle.plan.proofs.Room.{runs-within}
+use Rattle.plan.proofs.Room.{front-within}
 use Rattle.plan.proofs.main.Statement.{statement}
 use Rattle.plan.proofs.main.Tie as tie
 
@@ -31,10 +31,10 @@ run-requires : tie.Need-run-requires
 run-requires c κs = search needs
 
 array-share-prefix-out : tie.Need-array-share-prefix-out
-array-share-prefix-out c = runs-within (c .run .ensures)
+array-share-prefix-out c = front-within (c .run .ensures .output)
 
 slice-aggregate-write-all-2 : tie.Need-slice-aggregate-write-all-2
-slice-aggregate-write-all-2 c = sym (length-take-le _ _ (runs-within (c .before .run .ensures)))
+slice-aggregate-write-all-2 c = sym (length-take-le _ _ (front-within (c .before .run .ensures .output)))
 
 write-all-requires-2 : tie.Need-write-all-requires-2
 write-all-requires-2 c κs = search needs
@@ -45,11 +45,17 @@ slice-aggregate-write-all-3 c = search needs
 write-all-requires-3 : tie.Need-write-all-requires-3
 write-all-requires-3 c κs = search needs
 
+array-share-prefix-err : tie.Need-array-share-prefix-err
+array-share-prefix-err c = front-within (c .before .before .before .run .ensures .error)
+
+slice-aggregate-write-all-4 : tie.Need-slice-aggregate-write-all-4
+slice-aggregate-write-all-4 c = sym (length-take-le _ _ (front-within (c .before .before .before .before .run .ensures .error)))
+
+write-all-requires-4 : tie.Need-write-all-requires-4
+write-all-requires-4 c κs = search needs
+
 returns-2 : tie.Need-returns-2
 returns-2 c = search needs
-
-returns-3 : tie.Need-returns-3
-returns-3 c = search needs
 
 pub main-spec : {M : Type 1} → statement M
 main-spec =
@@ -68,5 +74,7 @@ main-spec =
     write-all-requires-2
     slice-aggregate-write-all-3
     write-all-requires-3
-    returns-2
-    returns-3)
+    array-share-prefix-err
+    slice-aggregate-write-all-4
+    write-all-requires-4
+    returns-2)

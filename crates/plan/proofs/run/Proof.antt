@@ -1,13 +1,11 @@
 -- `plan::run` meets its contract: enough of the input is read, and nothing is refused.
-use mathlib.Core.Path.{_≡_, sym, ap, _∙_, subst}
+use mathlib.Core.Path.{_≡_, sym, ap, _∙_}
 use mathlib.Core.List.{List}
 use Prim.Native.Nat.{ℕ, min}
 use native.Mathlib.Omega.{arith}
 use lib.ListN.{length, take, length-take}
 use lib.Seq.{length-take-le}
-use denote.Ref.{now}
 use borrow.Author.Needs.{needs}
-use Rattle.plan.specs.Prints.{Runs}
 use Rattle.plan.proofs.Jobs.{take-lesser}
 use Rattle.plan.proofs.Room.{never-refused, runs-whole}
 use Rattle.plan.proofs.run.Statement.{statement}
@@ -34,23 +32,22 @@ enum-told c = search needs
 returns : tie.Need-returns
 returns c =
     let made = c .before .before in
-    let cut = made .before .before .before in
+    let cut = made .before .before .before .before in
     let start = cut .before in
     absurd
-    (never-refused (made .answer .ensures) (omega (arith, length-take (cut .lesser .result) (start .args .t1), cut .lesser .ensures)) (search needs) _ _
+    (never-refused (made .answer .ensures) (omega (arith, length-take (cut .lesser .result) (start .args .t1), cut .lesser .ensures)) (search needs) (search needs) _ _
     (c .enum-told .given .1))
 
 returns-2 : tie.Need-returns-2
 returns-2 c =
-    let made = c .before .before .before in
-    let cut = made .before .before .before in
+    let printed = c .before in
+    let made = printed .before .before in
+    let cut = made .before .before .before .before in
     let start = cut .before in
     let input : List ℕ = start .args .t1 in
     let least : cut .lesser .result ≡ min (start .args .n) (length input) = omega (arith, cut .lesser .ensures) in
-    subst (λ (read : List ℕ). Runs (length input) read (now (start .args .out)) (made .answer .last .1 .0) (c .before .printed .given .0 .0))
-    (ap (λ (k : ℕ). take k input) least ∙ take-lesser (start .args .n) input)
-    (runs-whole (made .answer .ensures) (omega (arith, length-take (cut .lesser .result) input, cut .lesser .ensures)) (search needs) (length input)
-    (c .before .printed .given .0 .0) (omega arith) (c .before .printed .given .1))
+    runs-whole (made .answer .ensures) (omega (arith, length-take (cut .lesser .result) input, cut .lesser .ensures)) (search needs) (search needs) (length input)
+    (printed .printed .given .0 .0) (ap (λ (k : ℕ). take k input) least ∙ take-lesser (start .args .n) input) (omega arith) (printed .printed .given .1)
 
 pub run-spec : {M : Type 1} → statement M
 run-spec =
