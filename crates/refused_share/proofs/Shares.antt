@@ -1,15 +1,15 @@
 -- The smallest refused divisor: what the definition answers, and that it is the first refused entry of the list of divisors. Cuts that are even for a
 -- number are even for its divisors, so that every multiple of a refused divisor is refused.
 use mathlib.Core.Path.{_≡_, refl, sym, ap, _∙_, subst}
-use mathlib.Core.Logic.{inl, inr, ⊎-elim, _↔_}
-use mathlib.Core.Bool.{Bool, true, false, cond}
+use mathlib.Core.Logic.{⊎-elim, _↔_}
+use mathlib.Core.Bool.{Bool, true, false}
 use mathlib.Core.List.{List}
 use mathlib.Core.Option.{Option, none, some}
-use Prim.Native.Nat.{ℕ, zero, suc, _%_, _≤_, _<_, _∣_}
+use Prim.Native.Nat.{ℕ, suc, _%_, _≤_, _<_, _∣_}
 use native.Mathlib.Nat.{le-of-dvd, pos-of-dvd-of-pos, dvd-of-mod-eq-zero, mod-eq-zero-of-dvd, dvd-trans, dvd-refl, eq-or-lt-of-le}
 use native.Mathlib.Decide.{decLt}
 use native.Mathlib.Omega.{arith}
-use borrow.Author.Tests.{eq-eqb, ne-eqb, eqb-true}
+use borrow.Author.Tests.{eq-eqb, eqb-true}
 use lib.Dec.{eqb}
 use lib.ListN.{length, getD}
 use Rattle.numbers.specs.Divisors.{divisorsOf, divisorsAnswer, Listed}

@@ -7,7 +7,7 @@ use mathlib.Core.Path.{_≡_, sym, _∙_, subst}
 use Prim.Native.Nat.{ℕ, suc, _+_, _-_, _≤_, _<_}
 use native.Mathlib.Nat.{eq-or-lt-of-le}
 use native.Mathlib.Omega.{arith}
-use lib.ListN.{length, getD}
+use lib.ListN.{getD}
 use Rattle.multipartition.specs.Plans.{jobWith}
 use Rattle.multipartition.specs.Jobs.{planAnswer}
 use Rattle.refused_share.specs.Shares.{isFive}
