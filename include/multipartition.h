@@ -37,7 +37,7 @@
  * its length says, no answer list shares a place with another list of the call, and the thread has the stack that the call needs, which is
  * measured and not proved (MULTIPARTITION_PLAN_STACK and the like below). Where slabs begin and how tiles are numbered is not in a plan list, and
  * earlier archives had other edges and other tile numbers (the last dimension ran fastest) for the same list and, among equal costs, other cuts for
- * the same job, and knew no least thicknesses, which the two planning calls now take: all programs of a run are compiled with this header and link
+ * the same job, and knew no least thicknesses, which the calls that take a job now take: all programs of a run are compiled with this header and link
  * one archive, and data stored by slab or by tile are read by the edges, the numbering and the plan that they were written with.
  */
 #ifndef MULTIPARTITION_H

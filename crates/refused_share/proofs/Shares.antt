@@ -1,15 +1,15 @@
 -- The smallest refused divisor: what the definition answers, and that it is the first refused entry of the list of divisors. Cuts that are even for a
 -- number are even for its divisors, so that every multiple of a refused divisor is refused.
 use mathlib.Core.Path.{_≡_, refl, sym, ap, _∙_, subst}
-use mathlib.Core.Logic.{⊎-elim, _↔_}
+use mathlib.Core.Logic.{⊎-elim, _↔_, _≢_}
 use mathlib.Core.Bool.{Bool, true, false}
 use mathlib.Core.List.{List}
-use mathlib.Core.Option.{Option, none, some}
+use mathlib.Core.Option.{Option, none, some, Option·some-injective}
 use Prim.Native.Nat.{ℕ, suc, _%_, _≤_, _<_, _∣_}
 use native.Mathlib.Nat.{le-of-dvd, pos-of-dvd-of-pos, dvd-of-mod-eq-zero, mod-eq-zero-of-dvd, dvd-trans, dvd-refl, eq-or-lt-of-le}
 use native.Mathlib.Decide.{decLt}
 use native.Mathlib.Omega.{arith}
-use borrow.Author.Tests.{eq-eqb, eqb-true}
+use borrow.Author.Tests.{eq-eqb, ne-eqb, eqb-true}
 use lib.Dec.{eqb}
 use lib.ListN.{length, getD}
 use Rattle.numbers.specs.Divisors.{divisorsOf, divisorsAnswer, Listed}
@@ -17,6 +17,7 @@ use Rattle.numbers.proofs.Divisors.{dvd-of-entry, entry-pos, entry-le, entry-of
 use Rattle.multipartition.specs.Answers.{Answer, answered, refused}
 use Rattle.multipartition.specs.Plans.{Job, Layout}
 use Rattle.multipartition.specs.Jobs.{Passed, planAnswer}
+use Rattle.multipartition.proofs.Answers.{answered-injective}
 use Rattle.multipartition.proofs.Jobs.{refused-five-iff, accepted-or-five, passed-of-five}
 use Rattle.multipartition.proofs.Searches.{first-such-passes, first-such-below, first-such-le, first-such-is}
 use Rattle.multipartition.proofs.Tests.{false-not-true, and-iff, by-cond}
@@ -163,9 +164,6 @@ module _ (job : Job) where
   unfolding shareAnswer shareOf
   shown-of-five e = ap (shareOf job) e
 
-  some-injective : {x y : ℕ} → answered (some x) ≡ answered (some y) → x ≡ y
-  some-injective e = cc
-
   five-of-number : (number place : ℕ) → planAnswer job ≡ refused number place → eqb number 5 ≡ true → planAnswer job ≡ refused 5 0
   unfolding isFive
   five-of-number number place e t = five-iff job .0 (ap isFive e ∙ t)
@@ -180,7 +178,7 @@ module _ (job : Job) where
       go (refused number place) f =
           by-cond (λ (z : Answer (Option ℕ)). z ≡ answered (some x) → (planAnswer job ≡ refused 5 0) × Smallest job x)
           (eqb number 5) (answered (some (smallestRefused job))) (refused number place)
-          (λ t h. let five = five-of-number number place f t in (five, subst (Smallest job) (some-injective h) (smallest-of-five five)))
+          (λ t h. let five = five-of-number number place f t in (five, subst (Smallest job) (Option·some-injective _ _ (answered-injective _ _ h)) (smallest-of-five five)))
           (λ t h. let clash : _≡_ {A = ℕ} 0 1 = cc in absurd (omega arith))
 
   pub nothing-iff : (shareAnswer job ≡ answered none) ↔ ((plan : Layout) × (planAnswer job ≡ answered plan))
@@ -194,3 +192,19 @@ module _ (job : Job) where
           (eqb number 5) (answered (some (smallestRefused job))) (refused number place)
           (λ t h. let clash : _≡_ {A = ℕ} 0 1 = cc in absurd (omega arith))
           (λ t h. let clash : _≡_ {A = ℕ} 0 1 = cc in absurd (omega arith))
+
+  -- every other refusal comes back, and no other
+  pub refused-iff : (number place : ℕ) → (shareAnswer job ≡ refused number place) ↔ ((planAnswer job ≡ refused number place) × (number ≢ 5))
+  unfolding shareAnswer shareOf
+  refused-iff number place = (go (planAnswer job) refl, λ h. ap (shareOf job) (h .0) ∙ rw (ne-eqb number 5 (h .1)))
+    where
+      go : (a : Answer Layout) → planAnswer job ≡ a → shareOf job a ≡ refused number place → (planAnswer job ≡ refused number place) × (number ≢ 5)
+      go (answered plan) f = λ h. let clash : _≡_ {A = ℕ} 0 1 = cc in absurd (omega arith)
+      go (refused n k) f =
+          by-cond (λ (z : Answer (Option ℕ)). z ≡ refused number place → (planAnswer job ≡ refused number place) × (number ≢ 5))
+          (eqb n 5) (answered (some (smallestRefused job))) (refused n k)
+          (λ t h. let clash : _≡_ {A = ℕ} 0 1 = cc in absurd (omega arith))
+          (λ t h.
+            let same : n ≡ number = cc in
+            let there : k ≡ place = cc in
+            (f ∙ ap (λ (m : ℕ). refused m k) same ∙ ap (λ (m : ℕ). refused number m) there, λ e. false-not-true (sym t ∙ eq-eqb n 5 (same ∙ e))))
