@@ -1,4 +1,5 @@
 // Planning: the answer to a job is a plan or a refusal.
+use cuts::Found;
 use cuts::cheapest_cuts;
 use layout::Plan;
 use matrix::matrix_of;
@@ -9,16 +10,22 @@ ghost use lib.ListN.{length, take, replicate};
 ghost use Rattle.multipartition.specs.Answers.{refused as refusal};
 ghost use Rattle.multipartition.specs.Cuts.{Thick, mostOf, costOf, cheapest};
 ghost use Rattle.multipartition.specs.Plans.{leastOf, jobWith, layoutWith, between};
-ghost use Rattle.multipartition.specs.Jobs.{firstOutside, firstZero, planWith, planAnswer};
+ghost use Rattle.multipartition.specs.Jobs.{firstOutside, firstZero, jobChecks, planWith, planAnswer};
 ghost use Rattle.layout.specs.Plans.{five, planOf};
-ghost use Rattle.planner.specs.Planned.{plannedOf};
-ghost use Rattle.cuts.specs.Found.{Asked};
+ghost use Rattle.planner.specs.Planned.{firstFails, plannedOf};
+ghost use Rattle.cuts.specs.Found.{Asked, Chosen};
 
 // A plan, with number and place zero; or a refusal's number and place, with a plan of zeros.
 pub struct Planned {
     pub number: u32,
     pub place: u32,
     pub plan: Plan,
+}
+
+// The number and place of a refusal, or zeros.
+pub struct Turned {
+    pub number: u32,
+    pub place: u32,
 }
 
 // A refusal, all else zero.
@@ -169,14 +176,22 @@ fn plan_with(
     }
 }
 
-// The answer to a job that passes the lines 1 to 4 of the table and 13.
+// The cuts chosen for a job that passes the lines 1 to 4 of the table and 13.
+pub fn cuts_of(p: u32, extents: &[u32], weights: &[u32], given: &[u32]) -> Found
+    requires { ⌜ (Asked p (now extents) (now weights)) × (Thick (now extents) (leastOf (length (now extents)) (now given))) ⌝ }
+    ensures { λ r. ⌜ Chosen p (mostOf (now (extents .entry)) (leastOf (length (now (extents .entry))) (now (given .entry)))) (now (weights .entry)) (r .ok) (r .cost) (r .cuts) ⌝ }
+{
+    let d = extents.len();
+    let most = most_slabs(extents, given);
+    cheapest_cuts(p, &most[0..d], weights)
+}
+
+// The answer to such a job.
 fn answer(p: u32, extents: &[u32], weights: &[u32], given: &[u32]) -> Planned
     requires { ⌜ (Asked p (now extents) (now weights)) × (Thick (now extents) (leastOf (length (now extents)) (now given))) ⌝ }
     ensures { λ r. ⌜ r ≡ plannedOf (planWith (jobWith p (length (now (extents .entry))) (now (extents .entry)) (now (weights .entry)) (now (given .entry))) (cheapest p (now (extents .entry)) (leastOf (length (now (extents .entry))) (now (given .entry))) (now (weights .entry)))) ⌝ }
 {
-    let d = extents.len();
-    let most = most_slabs(extents, given);
-    let found = cheapest_cuts(p, &most[0..d], weights);
+    let found = cuts_of(p, extents, weights, given);
     if !found.ok {
         return refused(5, 0);
     }
@@ -188,26 +203,55 @@ fn answer(p: u32, extents: &[u32], weights: &[u32], given: &[u32]) -> Planned
     }
 }
 
+// The first of the lines 1 to 4 of the table and 13 that turns a job down; zeros where all pass.
+pub fn turned_down(p: u32, d: usize, extents: &[u32], weights: &[u32], least: &[u32]) -> Turned
+    ensures { λ r. ⌜ r ≡ firstFails (jobChecks (jobWith p d (now (extents .entry)) (now (weights .entry)) (now (least .entry)))) ⌝ }
+{
+    if (d < 2) | (5 < d) {
+        return Turned {
+            number: 1,
+            place: 0,
+        };
+    }
+    if (p < 1) | (4096 < p) {
+        return Turned {
+            number: 2,
+            place: 0,
+        };
+    }
+    if (extents.len() != d) | (weights.len() != d) | ((least.len() != 0) & (least.len() != d)) {
+        return Turned {
+            number: 3,
+            place: 0,
+        };
+    }
+    let outside = first_outside(extents);
+    if outside != 0 {
+        return Turned {
+            number: 4,
+            place: outside,
+        };
+    }
+    let zero = first_zero(least);
+    if zero != 0 {
+        return Turned {
+            number: 13,
+            place: zero,
+        };
+    }
+    Turned {
+        number: 0,
+        place: 0,
+    }
+}
+
 // The planner's answer to a job; an empty list of least thicknesses stands for 1 in every dimension.
 pub fn plan_job(p: u32, d: usize, extents: &[u32], weights: &[u32], least: &[u32]) -> Planned
     ensures { λ r. ⌜ r ≡ plannedOf (planAnswer (jobWith p d (now (extents .entry)) (now (weights .entry)) (now (least .entry)))) ⌝ }
 {
-    if (d < 2) | (5 < d) {
-        return refused(1, 0);
-    }
-    if (p < 1) | (4096 < p) {
-        return refused(2, 0);
-    }
-    if (extents.len() != d) | (weights.len() != d) | ((least.len() != 0) & (least.len() != d)) {
-        return refused(3, 0);
-    }
-    let outside = first_outside(extents);
-    if outside != 0 {
-        return refused(4, outside);
-    }
-    let zero = first_zero(least);
-    if zero != 0 {
-        return refused(13, zero);
+    let turned = turned_down(p, d, extents, weights, least);
+    if turned.number != 0 {
+        return refused(turned.number, turned.place);
     }
     answer(p, extents, weights, least)
 }

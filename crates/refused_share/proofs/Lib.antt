@@ -1,3 +1,2 @@
 pub mod Shares
-pub mod Planned
 pub mod Figures

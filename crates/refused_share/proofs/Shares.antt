@@ -2,7 +2,7 @@
 -- number are even for its divisors, so that every multiple of a refused divisor is refused.
 use mathlib.Core.Path.{_≡_, refl, sym, ap, _∙_, subst}
 use mathlib.Core.Logic.{⊎-elim, _↔_, _≢_}
-use mathlib.Core.Bool.{Bool, true, false}
+use mathlib.Core.Bool.{Bool, true, false, not}
 use mathlib.Core.List.{List}
 use mathlib.Core.Option.{Option, none, some, Option·some-injective}
 use Prim.Native.Nat.{ℕ, suc, _%_, _≤_, _<_, _∣_}
@@ -16,11 +16,12 @@ use Rattle.numbers.specs.Divisors.{divisorsOf, divisorsAnswer, Listed}
 use Rattle.numbers.proofs.Divisors.{dvd-of-entry, entry-pos, entry-le, entry-of-dvd, divisors-rising, length-divisorsOf-le, divisorsAnswer-inside, listed-inside}
 use Rattle.multipartition.specs.Answers.{Answer, answered, refused}
 use Rattle.multipartition.specs.Plans.{Job, Layout}
-use Rattle.multipartition.specs.Jobs.{Passed, planAnswer}
+use Rattle.multipartition.specs.Jobs.{Passed, cheapestFor, planWith, planAnswer}
 use Rattle.multipartition.proofs.Answers.{answered-injective}
-use Rattle.multipartition.proofs.Jobs.{refused-five-iff, accepted-or-five, passed-of-five}
+use Rattle.multipartition.proofs.Jobs.{plan-of-passed, refused-five-iff, accepted-or-five, passed-of-five}
 use Rattle.multipartition.proofs.Searches.{first-such-passes, first-such-below, first-such-le, first-such-is}
 use Rattle.multipartition.proofs.Tests.{false-not-true, and-iff, by-cond}
+use Rattle.cuts.specs.Found.{isChosen}
 use Rattle.refused_share.specs.Shares.{jobFor, isFive, isRefusedDivisor, smallestRefused, shareOf, shareAnswer, Smallest}
 
 -- ---- refused with 5
@@ -34,6 +35,15 @@ five-iff job = (there (planAnswer job) refl, λ e. ap isFive e)
     there (refused number place) e t =
         let five : planAnswer job ≡ refused 5 place = e ∙ ap (λ (n : ℕ). refused n place) (eqb-true number 5 t) in
         ⊎-elim (λ h. let clash : _≡_ {A = ℕ} 0 1 = cc in absurd (omega arith)) (λ h. h) (accepted-or-five job (passed-of-five job place five))
+
+-- a job that passes the checks is refused with 5 just if no cuts are chosen
+pub five-test : (job : Job) → Passed job → not (isChosen (cheapestFor job)) ≡ isFive (planAnswer job)
+unfolding isFive planWith
+five-test job passed = go (cheapestFor job) ∙ sym (ap isFive (plan-of-passed job passed))
+  where
+    go : (o : Option (List ℕ)) → not (isChosen o) ≡ isFive (planWith job o)
+    go none = refl
+    go (some cuts) = refl
 
 -- ---- the same job for the divisors of p
 
@@ -123,6 +133,11 @@ module _ (job : Job) (five : planAnswer job ≡ refused 5 0) (count : ℕ) (of :
   pub listed-few : count ≤ 127
   listed-few = omega (arith, counted, length-divisorsOf-le (job .p) (in-range .range .p-high))
 
+  -- each passes the checks
+  pub listed-passed : (k : ℕ) → k < count → Passed (jobFor (getD of k 0) job)
+  listed-passed k l =
+      subst (λ (x : ℕ). Passed (jobFor x job)) (sym (at k l)) (passed-for job in-range _ (dvd-of-entry (job .p) k (omega (arith, counted))))
+
   module _ (k : ℕ) (before : (i : ℕ) → i < k → isFive (planAnswer (jobFor (getD of i 0) job)) ≡ false) where
     before-entry : (j : ℕ) → j ≤ k → j < count → (i : ℕ) → i < j → isFive (planAnswer (jobFor (getD (divisorsOf (job .p)) i 0) job)) ≡ false
     before-entry j low high i l = ap (λ (x : ℕ). isFive (planAnswer (jobFor x job))) (sym (at i (omega arith))) ∙ before i (omega arith)
@@ -193,6 +208,11 @@ module _ (job : Job) where
           (λ t h. let clash : _≡_ {A = ℕ} 0 1 = cc in absurd (omega arith))
           (λ t h. let clash : _≡_ {A = ℕ} 0 1 = cc in absurd (omega arith))
 
+  -- a job that passes the checks and is not refused with 5
+  pub nothing-of-passed : Passed job → isFive (planAnswer job) ≡ false → shareAnswer job ≡ answered none
+  nothing-of-passed passed f =
+      nothing-iff .1 (⊎-elim (λ h. h) (λ e. absurd (false-not-true (sym f ∙ five-iff job .1 e))) (accepted-or-five job passed))
+
   -- every other refusal comes back, and no other
   pub refused-iff : (number place : ℕ) → (shareAnswer job ≡ refused number place) ↔ ((planAnswer job ≡ refused number place) × (number ≢ 5))
   unfolding shareAnswer shareOf
@@ -205,6 +225,6 @@ module _ (job : Job) where
           (eqb n 5) (answered (some (smallestRefused job))) (refused n k)
           (λ t h. let clash : _≡_ {A = ℕ} 0 1 = cc in absurd (omega arith))
           (λ t h.
-            let same : n ≡ number = cc in
-            let there : k ≡ place = cc in
-            (f ∙ ap (λ (m : ℕ). refused m k) same ∙ ap (λ (m : ℕ). refused number m) there, λ e. false-not-true (sym t ∙ eq-eqb n 5 (same ∙ e))))
+          let same : n ≡ number = cc in
+          let there : k ≡ place = cc in
+          (f ∙ ap (λ (m : ℕ). refused m k) same ∙ ap (λ (m : ℕ). refused number m) there, λ e. false-not-true (sym t ∙ eq-eqb n 5 (same ∙ e))))

@@ -1,11 +1,12 @@
 // The smallest share of the machine that is refused too: of a job refused with 5, the smallest divisor of p for which the same job is refused with 5.
 use numbers::factors::divisors;
-use planner::plan_job;
+use planner::cuts_of;
+use planner::turned_down;
 ghost use mathlib.Core.Path.{_≡_};
-ghost use Prim.Native.Nat.{_≤_};
+ghost use lib.ListN.{length};
 ghost use Rattle.multipartition.specs.Answers.{refused};
 ghost use Rattle.multipartition.specs.Plans.{jobWith};
-ghost use Rattle.multipartition.specs.Jobs.{planAnswer};
+ghost use Rattle.multipartition.specs.Jobs.{Passed, planAnswer};
 ghost use Rattle.refused_share.specs.Shares.{isFive, smallestRefused, shareAnswer};
 ghost use Rattle.refused_share.specs.Told.{toldShare};
 
@@ -16,25 +17,26 @@ pub enum RefusedShare {
     Refused { number: u32, place: u32 },
 }
 
-// Whether a job is refused with 5.
-fn is_five(p: u32, d: usize, extents: &[u32], weights: &[u32], least: &[u32]) -> bool
-    ensures { λ r. ⌜ r ≡ isFive (planAnswer (jobWith p d (now (extents .entry)) (now (weights .entry)) (now (least .entry)))) ⌝ }
+// Whether a job that passes the planner's checks is refused with 5: no plan is made.
+fn is_five(p: u32, extents: &[u32], weights: &[u32], least: &[u32]) -> bool
+    requires { ⌜ Passed (jobWith p (length (now extents)) (now extents) (now weights) (now least)) ⌝ }
+    ensures { λ r. ⌜ r ≡ isFive (planAnswer (jobWith p (length (now (extents .entry))) (now (extents .entry)) (now (weights .entry)) (now (least .entry)))) ⌝ }
 {
-    let planned = plan_job(p, d, extents, weights, least);
-    planned.number == 5
+    let found = cuts_of(p, extents, weights, least);
+    !found.ok
 }
 
 // The smallest divisor of p for which a job is refused with 5, where it is so for p itself, the last divisor.
-fn smallest(p: u32, d: usize, extents: &[u32], weights: &[u32], least: &[u32]) -> u32
-    requires { ⌜ planAnswer (jobWith p d (now extents) (now weights) (now least)) ≡ refused 5 0 ⌝ }
-    ensures { λ r. ⌜ r ≡ smallestRefused (jobWith p d (now (extents .entry)) (now (weights .entry)) (now (least .entry))) ⌝ }
+fn smallest(p: u32, extents: &[u32], weights: &[u32], least: &[u32]) -> u32
+    requires { ⌜ planAnswer (jobWith p (length (now extents)) (now extents) (now weights) (now least)) ≡ refused 5 0 ⌝ }
+    ensures { λ r. ⌜ r ≡ smallestRefused (jobWith p (length (now (extents .entry))) (now (extents .entry)) (now (weights .entry)) (now (least .entry))) ⌝ }
 {
     let found = divisors(p);
     let of = found.of;
     let count = found.count;
     for k in 1..count {
         let x = of[k - 1];
-        if is_five(x, d, extents, weights, least) {
+        if is_five(x, extents, weights, least) {
             return x;
         }
     }
@@ -51,16 +53,16 @@ pub fn smallest_refused(
 ) -> RefusedShare
     ensures { λ r. ⌜ toldShare r ≡ shareAnswer (jobWith p d (now (extents .entry)) (now (weights .entry)) (now (least .entry))) ⌝ }
 {
-    let planned = plan_job(p, d, extents, weights, least);
-    if planned.number == 0 {
-        return RefusedShare::Nothing;
-    }
-    if planned.number != 5 {
+    let turned = turned_down(p, d, extents, weights, least);
+    if turned.number != 0 {
         return RefusedShare::Refused {
-            number: planned.number,
-            place: planned.place,
+            number: turned.number,
+            place: turned.place,
         };
     }
-    let x = smallest(p, d, extents, weights, least);
+    if !is_five(p, extents, weights, least) {
+        return RefusedShare::Nothing;
+    }
+    let x = smallest(p, extents, weights, least);
     RefusedShare::Divisor(x)
 }

@@ -7,11 +7,11 @@ use mathlib.Core.Path.{_≡_, sym, _∙_, subst}
 use Prim.Native.Nat.{ℕ, suc, _+_, _-_, _≤_, _<_}
 use native.Mathlib.Nat.{eq-or-lt-of-le}
 use native.Mathlib.Omega.{arith}
-use lib.ListN.{getD}
+use lib.ListN.{length, getD}
 use Rattle.multipartition.specs.Plans.{jobWith}
 use Rattle.multipartition.specs.Jobs.{planAnswer}
 use Rattle.refused_share.specs.Shares.{isFive}
-use Rattle.refused_share.proofs.Shares.{listed-few, smallest-listed, smallest-last}
+use Rattle.refused_share.proofs.Shares.{listed-few, listed-passed, smallest-listed, smallest-last}
 use Rattle.refused_share.proofs.smallest.Statement.{statement}
 use Rattle.refused_share.proofs.smallest.Tie as tie
 
@@ -20,11 +20,11 @@ one-more Q k low before here i l =
     ⊎-elim (λ (e : suc i ≡ k). subst Q (omega arith) here) (λ h. before i h) (eq-or-lt-of-le (omega arith))
 
 abbrev Inv-loop : tie.InvT-loop
-Inv-loop p d extents weights least of count k₀ k =
-    (1 ≤ k) × ((i : ℕ) → suc i < k → isFive (planAnswer (jobWith (getD of i 0) d extents weights least)) ≡ false)
+Inv-loop p extents weights least of count k₀ k =
+    (1 ≤ k) × ((i : ℕ) → suc i < k → isFive (planAnswer (jobWith (getD of i 0) (length extents) extents weights least)) ≡ false)
 
 abbrev μ-loop : tie.MeasureT-loop
-μ-loop p d extents weights least of count k₀ k = count - k
+μ-loop p extents weights least of count k₀ k = count - k
 
 divisors-requires : tie.Need-divisors-requires Inv-loop μ-loop
 divisors-requires c κs = search needs
@@ -48,7 +48,10 @@ array-read-x c =
     omega (arith, listed-few _ (start .pre) _ _ (found .ensures))
 
 is-five-requires : tie.Need-is-five-requires Inv-loop μ-loop
-is-five-requires c κs = search needs
+is-five-requires c κs =
+    let start = c .before .before .before .before .before .before .before in
+    let found = c .before .before .before .divisors in
+    listed-passed _ (start .pre) _ _ (found .ensures) _ (omega arith)
 
 returns : tie.Need-returns Inv-loop μ-loop
 returns c =
@@ -69,7 +72,7 @@ loop-again c =
     let args = c .before .before .before .before .before .before .before .before .before .args in
     let of : List ℕ = c .before .before .before .before .before .divisors .result .of in
     let at = c .before .before .before .loop in
-    let test : ℕ → Bool = λ i. isFive (planAnswer (jobWith (getD of i 0) (args .d) (args .extents .now) (args .weights .now) (args .least .now))) in
+    let test : ℕ → Bool = λ i. isFive (planAnswer (jobWith (getD of i 0) (length (args .extents .now)) (args .extents .now) (args .weights .now) (args .least .now))) in
     (omega arith, one-more (λ i. test i ≡ false) (at .k) (at .inv .0) (at .inv .1) (sym (c .before .is-five .ensures) ∙ c .if1 .left))
 
 returns-2 : tie.Need-returns-2 Inv-loop μ-loop
