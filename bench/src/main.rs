@@ -282,9 +282,33 @@ fn lend(call: JobCall, job: &Job, list: &mut [u32]) -> Returned {
     black_box(call)(job.p, job.d, &job.extents, &job.weights, &job.least, list)
 }
 
+/// The divisor that a call finds for a job refused with 5.
+fn refused_divisor(call: JobCall, job: &Job) -> u64 {
+    let mut answer = [0; 2];
+    assert_eq!(lend(call, job, &mut answer), 0, "{job:?}");
+    u64::from(answer[1])
+}
+
+/// Of jobs that take long, each by the least time of some runs, the time in the middle and the longest.
+fn middle_and_longest(call: JobCall, hard: &[Job]) -> [f64; 2] {
+    let time = |job| least_seconds(9, || refused_divisor(call, job));
+    let mut times: Vec<f64> = hard.iter().map(time).collect();
+    times.sort_by(f64::total_cmp);
+    [times[times.len() / 2], times[times.len() - 1]]
+}
+
+/// A line of the smallest refused share.
+fn share_line(what: &str, ours: f64, theirs: f64, target: Option<f64>) {
+    print_line(&Contest {
+        what: format!("smallest refused share, {what}"),
+        ours: vec![ours],
+        theirs: vec![theirs],
+        target,
+    });
+}
+
 /// The smallest share that is refused too, after a comparison of many jobs and of refusals: that of the request's own
-/// job; and of jobs that take long, each by the least time of some runs, the time in the middle and the longest. No job
-/// may take more than 25 ms.
+/// job; and of jobs that take long. No job may take more than 25 ms.
 fn refused_shares(repeats: usize) {
     let calls = [
         PROVED.smallest_refused,
@@ -299,45 +323,27 @@ fn refused_shares(repeats: usize) {
         let what = format!("{job:?}");
         compare(&what, &lent, &calls, |&call, list| lend(call, &job, list));
     }
-    let find = |call: JobCall, job: &Job| {
-        let mut answer = [0; 2];
-        assert_eq!(lend(call, job, &mut answer), 0, "{job:?}");
-        u64::from(answer[1])
-    };
-    let middle_and_longest = |call: JobCall| {
-        let time = |job| least_seconds(9, || find(call, job));
-        let mut times: Vec<f64> = hard.iter().map(time).collect();
-        times.sort_by(f64::total_cmp);
-        [times[times.len() / 2], times[times.len() - 1]]
-    };
-    let line = |what: &str, ours: f64, theirs: f64, target: Option<f64>| {
-        print_line(&Contest {
-            what: format!("smallest refused share, {what}"),
-            ours: vec![ours],
-            theirs: vec![theirs],
-            target,
-        });
-    };
     let small = jobs::small_share();
-    let [middle, longest] = middle_and_longest(ours);
+    let [middle, longest] = middle_and_longest(ours, &hard);
     for (beside, rival) in [("", theirs), (", beside fitting alone", by_fitting)] {
         print_line(&contest(
             &format!("smallest refused share, 12 on 5 5{beside}"),
             None,
             1,
             repeats,
-            || find(ours, &small),
-            || find(rival, &small),
+            || refused_divisor(ours, &small),
+            || refused_divisor(rival, &small),
         ));
-        let [middle_of_theirs, longest_of_theirs] = middle_and_longest(rival);
-        for (what, ours, theirs) in [
-            ("middle job", middle, middle_of_theirs),
-            ("longest job", longest, longest_of_theirs),
-        ] {
-            line(&format!("{what}{beside}"), ours, theirs, None);
-        }
+        let [their_middle, their_longest] = middle_and_longest(rival, &hard);
+        share_line(&format!("middle job{beside}"), middle, their_middle, None);
+        share_line(
+            &format!("longest job{beside}"),
+            longest,
+            their_longest,
+            None,
+        );
     }
-    line("longest job, beside 25 ms", longest, 25e-3, Some(1.0));
+    share_line("longest job, beside 25 ms", longest, 25e-3, Some(1.0));
 }
 
 /// Diagonal plans on the grids that they just fit, after a comparison of many others and of refusals.

@@ -152,7 +152,7 @@ pub fn smallest_refused(lists: &mut Lists, job: &Job, lent: &[u32]) -> u64 {
 }
 
 /// A call that takes a job: it makes a plan, or asks for a divisor.
-pub type Planner = fn(u32, u32, &[u32], &[u32], &[u32], &mut [u32]) -> u64;
+pub type JobCall = fn(u32, u32, &[u32], &[u32], &[u32], &mut [u32]) -> u64;
 
 /// Calls with a job, to which this is the answer. The lists that describe the job keep their contents.
 fn call(
@@ -160,11 +160,11 @@ fn call(
     job: &Job,
     lent: &[u32],
     answered: Result<Vec<u32>, Refusal>,
-    planner: Planner,
+    job_call: JobCall,
 ) -> u64 {
     let given = [&job.extents[..], &job.weights, &job.least];
     let [extents, weights, least, lent_list] = lists.hold([given[0], given[1], given[2], lent]);
-    let returned = planner(job.p, job.d, extents, weights, least, lent_list);
+    let returned = job_call(job.p, job.d, extents, weights, least, lent_list);
     assert_eq!(
         (returned, lent_list.to_vec()),
         outcome(answered, lent),

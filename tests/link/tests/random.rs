@@ -6,7 +6,7 @@ use std::mem::discriminant;
 
 use link::calls;
 use link::compared::{
-    ask, chain, diagonal, hypercube_owner, plan, probe, smallest_refused, Lists, Planner,
+    ask, chain, diagonal, hypercube_owner, plan, probe, smallest_refused, JobCall, Lists,
 };
 use link::guarded::ROOM;
 use link::plan_list::{
@@ -375,7 +375,7 @@ fn the_planner_costs_no_more() {
 }
 
 /// Has one of the two planning calls plan a job.
-fn call(planner: Planner, job: &Job, list: &mut [u32]) -> u64 {
+fn call(planner: JobCall, job: &Job, list: &mut [u32]) -> u64 {
     planner(job.p, job.d, &job.extents, &job.weights, &job.least, list)
 }
 
@@ -383,7 +383,7 @@ fn call(planner: Planner, job: &Job, list: &mut [u32]) -> u64 {
 #[test]
 fn no_thicknesses_are_ones() {
     let mut random = Random::new(12);
-    let planners: [Planner; 2] = [calls::plan, calls::diagonal];
+    let planners: [JobCall; 2] = [calls::plan, calls::diagonal];
     let mut seen = Seen::default();
     for _ in 0..10_000 {
         let mut job = job_for_diagonal(&mut random);

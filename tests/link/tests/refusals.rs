@@ -5,7 +5,7 @@ use link::calls::{
     chains, diagonal, hypercube_owner, neighbour, owner, plan, slab, slab_of, slabs_of,
     smallest_refused, step, tile_number, tile_position, timetable,
 };
-use link::compared::Planner;
+use link::compared::JobCall;
 use link::plan_list::{
     PlanList, COST_HIGH, COST_LOW, CUTS, DIMENSIONS, EXTENTS, KIND, LEAST, MATRIX, MODULI,
     PLAN_LENGTH, PROCESSORS, ROW_LENGTH, WEIGHTS,
@@ -106,7 +106,7 @@ fn jobs_for_diagonal_plans() {
 /// thickness list that is neither empty nor d long."
 #[test]
 fn jobs_with_thicknesses() {
-    let calls: [Planner; 2] = [plan, diagonal];
+    let calls: [JobCall; 2] = [plan, diagonal];
     for call in calls {
         refused::<PLAN_LENGTH>(1, |list| call(2, 6, &[6; 6], &[1; 6], &[0; 6], list));
         refused::<PLAN_LENGTH>(2, |list| call(0, 2, &[6; 2], &[1; 2], &[0; 2], list));

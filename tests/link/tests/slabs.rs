@@ -2,7 +2,7 @@
 //! more than the others." And "Slabs no thinner than the stencil" (request g).
 
 use link::calls::{diagonal, plan, slab, slab_of};
-use link::compared::Planner;
+use link::compared::JobCall;
 use link::plan_list::{list_of, PlanList, CUTS, DIMENSIONS, LEAST, PLAN_LENGTH};
 use link::questions::{job, job_for_diagonal, made_by_hand};
 use oracle::plan::Job;
@@ -113,7 +113,7 @@ fn check_thicknesses(lists: impl Iterator<Item = PlanList>) {
 }
 
 /// The plan of a job by one of the two planning calls, with the thicknesses of the job.
-fn planned(planner: Planner, job: Job) -> Option<PlanList> {
+fn planned(planner: JobCall, job: Job) -> Option<PlanList> {
     let mut list = [77; PLAN_LENGTH];
     let (extents, weights, least) = (&job.extents, &job.weights, &job.least);
     if planner(job.p, job.d, extents, weights, least, &mut list) != 0 {
