@@ -178,7 +178,7 @@ pub fn small_share() -> Job {
 }
 
 /// Jobs whose smallest refused share takes long to find: among the longest of a search over extents and weights, for
-/// counts with many divisors and for 4,095 and 4,096. All are refused for p alone, so that every divisor is planned.
+/// counts with many divisors and for 4,095 and 4,096. All are refused for p alone, so that every divisor is tried.
 pub fn hard_shares() -> Vec<Job> {
     let four: [(u32, [u32; 4], [u32; 4]); 3] = [
         (2520, [314, 419, 59, 1], [0, 0, 96_352, 45_655]),

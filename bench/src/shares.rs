@@ -101,7 +101,7 @@ mod tests {
         assert!(shown.iter().all(|&n| n > 500), "{shown:?}");
     }
 
-    /// The jobs that take long are refused for p alone, so that every divisor is planned.
+    /// The jobs that take long are refused for p alone, so that every divisor is tried.
     #[test]
     fn hard_shares_are_refused_for_p_alone() {
         for job in hard_shares() {

@@ -1,4 +1,5 @@
--- The planner's answer: a refusal has a number from 1 on, so that 0 tells a plan from a refusal, and a plan fits its five places.
+-- The planner's answer: a refusal has a number from 1 on, so that 0 tells a plan from a refusal, and a plan fits its five places; and what its checks alone
+-- say of it.
 use mathlib.Core.Path.{_≡_, sym, ap, _∙_, subst⁻¹}
 use mathlib.Core.Logic.{_≢_}
 use mathlib.Core.List.{List}

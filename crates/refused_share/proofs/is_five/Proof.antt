@@ -1,4 +1,4 @@
--- `refused_share::is_five` meets its contract.
+-- `refused_share::is_five` meets its contract. Assumes nothing.
 use mathlib.Core.Bool.{not}
 use mathlib.Core.Path.{ap, _∙_}
 use lib.ListN.{length}
