@@ -13,13 +13,13 @@ use Rattle.multipartition.specs.Jobs.{Passed, firstOutside, firstZero, jobCheck
 use Rattle.multipartition.proofs.Chosen.{chosen-length}
 use Rattle.multipartition.proofs.Fitting.{thick-of-places}
 use Rattle.multipartition.proofs.Answers.{Small, NoneHas}
-use Rattle.multipartition.proofs.Jobs.{job-passes-iff, plan-answered, plan-small}
+use Rattle.multipartition.proofs.Jobs.{job-passes-iff, passed-of-five, plan-answered, plan-small}
 use Rattle.layout.specs.Sized.{Sized}
 use Rattle.layout.proofs.Plans.{layout-with-sized}
 use Rattle.cuts.specs.Found.{Asked}
 use Rattle.planner.specs.Planned.{firstFails}
 use Rattle.planner.specs.declared.Turned.{Turned}
-use Rattle.planner.proofs.FirstFails.{pass-of-zero, first-fails-not, refused-of-first}
+use Rattle.planner.proofs.FirstFails.{none-fails-is, pass-of-zero, refused-of-first}
 
 abbrev pub Numbered : Answer Layout → Type 0
 Numbered (answered plan) = Unit {0}
@@ -51,16 +51,13 @@ ready p d extents weights given passed =
     )
 
 module _ (job : Job) where
-  -- no line has number 0 or 5
-  others : NoneHas 0 (jobChecks job) × NoneHas 5 (jobChecks job)
-  others = (
-    ((λ e. omega arith), ((λ e. omega arith), ((λ e. omega arith), ((λ e. omega arith), ((λ e. omega arith), tt))))),
-    ((λ e. omega arith), ((λ e. omega arith), ((λ e. omega arith), ((λ e. omega arith), ((λ e. omega arith), tt))))),
-  )
+  -- no line has number 0
+  none-0 : NoneHas 0 (jobChecks job)
+  none-0 = ((λ e. omega arith), ((λ e. omega arith), ((λ e. omega arith), ((λ e. omega arith), ((λ e. omega arith), tt)))))
 
   module _ (turned : Turned) (is : turned ≡ firstFails (jobChecks job)) where
     pub turned-passed : turned .number ≡ 0 → Passed job
-    turned-passed e = job-passes-iff job .0 (pass-of-zero (jobChecks job) (others .0) (sym (ap (λ (t : Turned). t .number) is) ∙ e))
+    turned-passed e = job-passes-iff job .0 (pass-of-zero (jobChecks job) none-0 (sym (ap (λ (t : Turned). t .number) is) ∙ e))
 
     pub turned-refused : turned .number ≢ 0 → planAnswer job ≡ refused (turned .number) (turned .place)
     unfolding planAnswer
@@ -69,4 +66,8 @@ module _ (job : Job) where
         ∙ sym (ap (λ (t : Turned). refused (t .number) (t .place)) is)
 
     pub turned-not-5 : turned .number ≢ 5
-    turned-not-5 e = first-fails-not 5 (jobChecks job) (λ z. omega arith) (others .1) (sym (ap (λ (t : Turned). t .number) is) ∙ e)
+    turned-not-5 e =
+        let five = turned-refused (λ z. omega arith) ∙ ap (λ (n : ℕ). refused n (turned .place)) e in
+        let all = job-passes-iff job .1 (passed-of-five job (turned .place) five) in
+        let zero : turned .number ≡ 0 = ap (λ (t : Turned). t .number) (is ∙ sym (none-fails-is (jobChecks job) all)) in
+        omega arith

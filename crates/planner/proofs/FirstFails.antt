@@ -28,15 +28,6 @@ pass-of-zero (c ∷ checks) some =
     (λ f e. absurd (some .0 e))
     (λ f e. (f, pass-of-zero checks (some .1) e))
 
--- it has a number of one of the lines
-pub first-fails-not : (n : ℕ) (checks : List Check) → 0 ≢ n → NoneHas n checks → firstFails checks .number ≢ n
-first-fails-not n [] some none = some
-first-fails-not n (c ∷ checks) some none =
-    by-cond (λ (t : Turned). t .number ≢ n)
-    (c .fails) (record { number = c .number; place = c .place }) (firstFails checks)
-    (λ f. none .0)
-    (λ f. first-fails-not n checks some (none .1))
-
 -- a line that fails is the answer
 pub refused-of-first : {A : Type 0} (checks : List Check) (answer : Answer A) → firstFails checks .number ≢ 0
     → checked checks answer ≡ refused (firstFails checks .number) (firstFails checks .place)
