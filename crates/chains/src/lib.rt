@@ -1,6 +1,8 @@
 // The chains of a plan's tiles, in two lent lists. The tiles are visited from the highest down, and each visit leads from one stage of the walk to
 // the next (document 02, request e). The first dimension runs fastest (request i), and the owner of the tile one step down along a dimension is looked
 // up in a table of downward neighbours: no tile takes a division. Dimensions that follow each other are walked as one where they can be.
+#![tactic(auto)]
+
 ghost use Rattle.std.specs.Prelude.{true, ◌≡◌, ℕ, ◌+◌, ◌-◌, ◌<◌, ◌≤◌, min, max, ◌*◌, ◌%◌, eqb, length, replicate};
 ghost use Rattle.multipartition.specs.Plans.{tiles_of};
 ghost use Rattle.multipartition.specs.Questions.{tile_owner, chains_answer, stage_answer};
@@ -12,14 +14,14 @@ ghost use Rattle.chains.specs.Walks.{block_size, BlockTop, lower, TwoSteps, Fall
 
 use layout::Plan;
 
-#[derive(Drop)]
+#[derive(Clone, Copy)]
 pub enum Chained {
     Done,
     Refused { number: u32, place: u32 },
 }
 
 // A group of dimensions that are counted as one: its place among the counts, and its first dimension.
-#[derive(Drop)]
+#[derive(Clone, Copy)]
 struct Group {
     at: usize,
     first: usize,

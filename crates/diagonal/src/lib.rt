@@ -1,4 +1,6 @@
 // The diagonal layouts: the answer to a job is a diagonal plan or a refusal.
+#![tactic(auto)]
+
 ghost use Rattle.std.specs.Prelude.{◌≡◌, ◌++◌, ◌∷◌, ◌-◌, ◌*◌, ◌^◌, ◌≤◌, leb, length, replicate, take};
 ghost use Rattle.multipartition.specs.Cuts.{cut_cost, cost_of};
 ghost use Rattle.multipartition.specs.Plans.{least_of, job_with};

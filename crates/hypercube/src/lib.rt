@@ -1,4 +1,6 @@
 // The hypercube layout: who owns a position, of 4 to the power e processors and three dimensions of 2 to the power e slabs.
+#![tactic(auto)]
+
 ghost use Rattle.std.specs.Prelude.{[], ◌∷◌, ◌≡◌, ◌+◌, ◌*◌, ◌%◌, ◌^◌, ◌≤◌, ◌<◌};
 ghost use Rattle.multipartition.specs.Tiles.{is_inside};
 ghost use Rattle.questions.specs.Told.{told_owner};

@@ -7,8 +7,6 @@ use native.Mathlib.Omega.{arith}
 use lib.ListN.{length, take, drop, set, get_or, replicate, length-set, take-append-drop, drop_of_length-le}
 use lib.Seq.{length-take-le, take-suc-set, drop-set-lt, drop-drop, drop-cons}
 use mathlib.Core.Bool.{Bool, true, false, true≢false}
-use denote.Enum.Declared.{tag_of}
-use types.Run.{OneOf, miss}
 use Rattle.multipartition.specs.Answers.{Answer, answered, refused}
 use Rattle.job_text.specs.Readable.{most_numbers, Finds}
 use Rattle.job_text.specs.Machine.{State, astray, step, is_astray, at_end, read_from, read_line}
@@ -19,7 +17,6 @@ use Rattle.job_text.specs.declared.Reading.{Reading}
 use Rattle.job_text.specs.declared.Line.TheVariants.{Numbers}
 use Rattle.job_text.specs.declared.JobLine.{JobLine}
 use Rattle.job_text.specs.Told.{told, padded, job_line_of, Reads}
-use Rattle.job_text.specs.contracts.Stage.{the_type}
 use Rattle.job_text.proofs.Finds.{reader-finds}
 
 -- as many numbers as the count says
@@ -73,18 +70,18 @@ next_byte s text i h e = one_byte s text i false h e
 pub no_byte : (s : State) (text : List ℕ) (i : ℕ) → length text ≤ i → read_from s i (drop i text) ≡ at_end s i
 no_byte s text i h = ap (read_from s i) (drop_of_length-le text h)
 
--- a stage by its tag: none but `Astray` is astray, and none but `Finished` has read a line
-pub not_astray : (stage : Stage) (ns : List ℕ) → OneOf (0 ∷ 1 ∷ 2 ∷ []) (tag_of the_type stage) → is_astray (state_at stage ns) ≡ false
+-- none but `Astray` is astray, and none but `Finished` has read a line
+pub not_astray : (stage : Stage) (ns : List ℕ) → (stage ≡ Astray → ⊥) → is_astray (state_at stage ns) ≡ false
 not_astray Between ns k = refl
 not_astray (Inside v) ns k = refl
 not_astray Finished ns k = refl
-not_astray Astray ns k = absurd (miss (0 ∷ 1 ∷ 2 ∷ []) 3 tt k)
+not_astray Astray ns k = absurd (k refl)
 
-pub unfinished : (stage : Stage) (ns : List ℕ) (i : ℕ) → OneOf (0 ∷ 1 ∷ 3 ∷ []) (tag_of the_type stage) → is_astray (state_at stage ns) ≡ false
+pub unfinished : (stage : Stage) (ns : List ℕ) (i : ℕ) → (stage ≡ Finished → ⊥) → is_astray (state_at stage ns) ≡ false
     → at_end (state_at stage ns) i ≡ refused 10 (i + 1)
 unfinished Between ns i k e = refl
 unfinished (Inside v) ns i k e = refl
-unfinished Finished ns i k e = absurd (miss (0 ∷ 1 ∷ 3 ∷ []) 2 tt k)
+unfinished Finished ns i k e = absurd (k refl)
 unfinished Astray ns i k e = absurd (true≢false e)
 
 -- ---- the answer

@@ -1,4 +1,6 @@
 // The reader of the job line: 2 to 17 decimal numbers with one space between and a newline after the last.
+#![tactic(auto)]
+
 ghost use Rattle.std.specs.Prelude.{◌≡◌, ◌++◌, ◌∷◌, [], ◌<◌, ◌≤◌, ◌+◌};
 ghost use Rattle.multipartition.specs.Answers.{refused};
 ghost use Rattle.job_text.specs.Readable.{most_numbers};
@@ -10,14 +12,14 @@ ghost use Rattle.job_text.specs.Readings.{Sound, Holds, state_at, most_at, numbe
 const MOST: usize = 17;
 
 // What a text is: a readable line of so many numbers, or none.
-#[derive(Drop)]
+#[derive(Clone, Copy)]
 pub enum Line {
     Numbers(usize),
     Unreadable,
 }
 
 // The answer to a text, with the line's numbers or the place of refusal 10 beside it; every other part is zero.
-#[derive(Drop)]
+#[derive(Clone, Copy)]
 pub struct JobLine {
     pub line: Line,
     pub numbers: [u32; MOST],
@@ -25,7 +27,7 @@ pub struct JobLine {
 }
 
 // Where the reader stands: a number is to begin; within a number, whose digits so far have this value; past the newline; astray.
-#[derive(Drop)]
+#[derive(Clone, Copy)]
 enum Stage {
     Between,
     Inside(u32),
@@ -34,7 +36,7 @@ enum Stage {
 }
 
 // The numbers that are read whole, with zeros after them, and where the reader stands.
-#[derive(Drop)]
+#[derive(Clone, Copy)]
 struct Reading {
     numbers: [u32; MOST],
     count: usize,

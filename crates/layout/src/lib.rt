@@ -1,4 +1,6 @@
 // A plan by value, and the check that it is in shape.
+#![tactic(auto)]
+
 ghost use Rattle.std.specs.Prelude.{◌&&◌, ◌≡◌, ◌*◌, ◌<◌, ◌≤◌, leb, ltb, length, take};
 ghost use Rattle.numbers.specs.Products.{product};
 ghost use Rattle.multipartition.specs.Lists.{all_below};
@@ -10,7 +12,7 @@ ghost use Rattle.layout.specs.Lent.{Lent, is_lent, lent_plan, plan_over};
 // Lists hold dimension k at place k - 1, and row i of the matrix stands at places 5 * (i - 1) on. Places past d are zero in a plan that a call
 // answers, and are never read. The kind is 0 for the planner's plans and 1 for diagonal ones. No slab of a dimension has fewer elements than its least
 // thickness.
-#[derive(Drop)]
+#[derive(Clone, Copy)]
 pub struct Plan {
     pub d: usize,
     pub p: u32,

@@ -1,4 +1,6 @@
 // The lists of the link for a solver in C: plans and answers as lists of 32-bit numbers.
+#![tactic(auto)]
+
 ghost use Rattle.std.specs.Prelude.{[], ◌∷◌, ◌≡◌, ◌+◌, ◌*◌, ◌≤◌, ◌<◌, length, get_or, set, take, drop};
 ghost use Rattle.std.proofs.lemmas.List.Edits.{sets};
 ghost use Rattle.multipartition.specs.Questions.{owner_answer, neighbour_answer};

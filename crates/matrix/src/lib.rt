@@ -1,4 +1,6 @@
 // The moduli and the matrix of given cuts.
+#![tactic(auto)]
+
 ghost use Rattle.std.specs.Prelude.{◌≡◌, ◌++◌, ℕ, suc, ◌+◌, ◌-◌, ◌*◌, ◌%◌, ◌<◌, ◌≤◌, pos, take, replicate};
 ghost use Rattle.multipartition.specs.Moduli.{moduli_of};
 ghost use Rattle.multipartition.specs.Matrix.{matrix_of};

@@ -1,1 +1,2 @@
 // Generalized multipartitioning: definitions (specs/) and theorems (proofs/). No code runs here.
+#![tactic(auto)]

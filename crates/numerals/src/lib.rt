@@ -1,5 +1,7 @@
 // Decimal numbers and lines of them, written into a lent list of bytes. Each function takes the place where its text starts and answers the
 // place after it. A byte for which the list has no place is left out.
+#![tactic(auto)]
+
 ghost use Rattle.std.specs.Prelude.{◌≡◌, [], ◌∷◌, ◌<◌};
 ghost use Rattle.numerals.specs.Decimal.{digit, decimal};
 ghost use Rattle.numerals.specs.Lines.{line_of};

@@ -1,5 +1,6 @@
 // Runs figures of the diagonal layouts and of the hypercube layout on the calls. What it prints is held to the file stdout. Each function writes its
 // lines into a lent list from a place on, and answers the place after them.
+#![tactic(auto)]
 ghost use Rattle.std.specs.Prelude.{◌≡◌, length};
 
 use layout::Plan;

@@ -1,5 +1,6 @@
 // The program: reads a job line from standard input and prints its plan, or a refusal, to standard output. Of a job refused with 5 it tells the
 // smallest divisor of p that is refused so, on standard error.
+#![tactic(auto)]
 ghost use Rattle.std.specs.Prelude.{◌≡◌, ◌≤◌, min, length, take};
 ghost use Rattle.numerals.specs.Output.{Written};
 ghost use Rattle.refused_share.specs.Told.{told_share};
@@ -26,28 +27,28 @@ const NO_CUTS: [u8; 135] =
 const TOLD: usize = 140;
 
 // What came of reading: so many bytes, or a read that failed.
-#[derive(Drop)]
+#[derive(Clone, Copy)]
 enum Input {
     Bytes(usize),
     Failed,
 }
 
 // The two answers to a job: the planner's, and the smallest share that is refused too.
-#[derive(Drop)]
+#[derive(Clone, Copy)]
 struct Asked {
     planned: Planned,
     share: RefusedShare,
 }
 
 // What was written into the two lists: the answer of the printing call, and how many bytes are told.
-#[derive(Drop)]
+#[derive(Clone, Copy)]
 struct Texts {
     printed: Printed,
     told: usize,
 }
 
 // How many bytes are to be written to standard output, and to standard error.
-#[derive(Drop)]
+#[derive(Clone, Copy)]
 struct Counts {
     printed: usize,
     told: usize,

@@ -1,5 +1,7 @@
 // The printer of the plan, into a lent list of bytes. The private functions `put_..` write from place `at` on, or from the front where they
 // have no `at`, and answer the place after what they wrote; a byte for which the list has no place is left out. The calls hand over whole texts.
+#![tactic(auto)]
+
 ghost use Rattle.std.specs.Prelude.{true, [], ◌∷◌, ◌++◌, suc, ◌<◌, ◌≤◌, length, take};
 ghost use Rattle.numerals.specs.Words.{bytes_of};
 ghost use Rattle.numerals.specs.Lines.{line_of};
@@ -37,7 +39,7 @@ pub const LONGEST_PLAN: usize = 102667;
 const LONGEST_REFUSED: usize = 50;
 
 // The answer of a printing call: the text, of so many bytes, stands at the front of the lent list, or the list is as it was.
-#[derive(Drop)]
+#[derive(Clone, Copy)]
 pub enum Printed {
     Bytes(usize),
     Refused { number: u32, place: u32 },

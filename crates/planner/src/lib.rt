@@ -1,4 +1,6 @@
 // Planning: the answer to a job is a plan or a refusal.
+#![tactic(auto)]
+
 ghost use Rattle.std.specs.Prelude.{◌≡◌, ◌/◌, ◌≤◌, length, take, replicate};
 ghost use Rattle.multipartition.specs.Answers.{refused as refusal};
 ghost use Rattle.multipartition.specs.Cuts.{Thick, most_of, cost_of, cheapest};
@@ -13,7 +15,7 @@ use layout::Plan;
 use matrix::{matrix_of, moduli_of};
 
 // A plan, with number and place zero; or a refusal's number and place, with a plan of zeros.
-#[derive(Drop)]
+#[derive(Clone, Copy)]
 pub struct Planned {
     pub number: u32,
     pub place: u32,
@@ -21,7 +23,7 @@ pub struct Planned {
 }
 
 // The number and place of a refusal, or zeros.
-#[derive(Drop)]
+#[derive(Clone, Copy)]
 pub struct Turned {
     pub number: u32,
     pub place: u32,

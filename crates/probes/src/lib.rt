@@ -1,5 +1,7 @@
 // The slabs of a whole probe line: of a rising list of elements of one dimension, written in one pass along the elements and the slab edges
 // (document 02, request h).
+#![tactic(auto)]
+
 ghost use Rattle.std.specs.Prelude.{◌≡◌, ◌+◌, ◌<◌, ◌≤◌, eqb, length};
 ghost use Rattle.multipartition.specs.Slabs.{slab_start, slab_of};
 ghost use Rattle.layout.specs.Plans.{layout_of};
@@ -12,7 +14,7 @@ use layout::Plan;
 use tiles::dimensions::has_dimension;
 use tiles::slabs::thickness;
 
-#[derive(Drop)]
+#[derive(Clone, Copy)]
 pub enum Probed {
     // the slabs stand at the front of the second list
     Done,
@@ -21,7 +23,7 @@ pub enum Probed {
 }
 
 // The edge behind a slab: the element after its last.
-#[derive(Drop)]
+#[derive(Clone, Copy)]
 struct Edge {
     slab: u32,
     after: u32,

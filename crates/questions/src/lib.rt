@@ -1,5 +1,7 @@
 // Who owns a tile position, and who is the neighbour of a processor: of a plan by value, or of a plan by its lists, lent, of which nothing is
 // copied.
+#![tactic(auto)]
+
 ghost use Rattle.std.specs.Prelude.{◌≡◌, ◌%◌, ◌*◌, ◌<◌, ◌≤◌, ltb, length, get_or, take, drop};
 ghost use Rattle.multipartition.specs.Lists.{all_below};
 ghost use Rattle.multipartition.specs.Owners.{times, owner_at};
@@ -12,13 +14,13 @@ ghost use Rattle.questions.specs.Told.{told_owner, told_neighbour};
 
 use layout::Plan;
 
-#[derive(Drop)]
+#[derive(Clone, Copy)]
 pub enum Owner {
     Processor(u32),
     Refused { number: u32, place: u32 },
 }
 
-#[derive(Drop)]
+#[derive(Clone, Copy)]
 pub enum Neighbour {
     Processor(u32),
     Nobody,

@@ -1,4 +1,6 @@
 // The smallest share of the machine that is refused too: of a job refused with 5, the smallest divisor of p for which the same job is refused with 5.
+#![tactic(auto)]
+
 ghost use Rattle.std.specs.Prelude.{◌≡◌, length};
 ghost use Rattle.multipartition.specs.Answers.{refused};
 ghost use Rattle.multipartition.specs.Plans.{job_with};
@@ -10,7 +12,7 @@ use numbers::factors::divisors;
 use planner::{cuts_of, turned_down};
 
 // The divisor, or nothing to show, or a refusal.
-#[derive(Drop)]
+#[derive(Clone, Copy)]
 pub enum RefusedShare {
     Divisor(u32),
     Nothing,

@@ -50,8 +50,8 @@ module _ (job : Job) (plan : Plan) (e : plan_answer job ≡ answered (layout_of 
   unfolding owner_of
   owners_are = ap owner_by made.plan_is
 
-  owner_of : (x : List ℕ) → Inside (cuts_of plan) x → owner_in plan x ≡ owner_of job.p (cuts_of plan) x
-  owner_of x w = owner_by_lem job plan held_job shaped x w ∙ ap (λ (own : List ℕ → ℕ). own x) owners_are
+  owner_of_lem : (x : List ℕ) → Inside (cuts_of plan) x → owner_in plan x ≡ owner_of job.p (cuts_of plan) x
+  owner_of_lem x w = owner_by_lem job plan held_job shaped x w ∙ ap (λ (own : List ℕ → ℕ). own x) owners_are
 
   ours : Ours job plan
   unfolding layout_of
@@ -68,7 +68,7 @@ module _ (job : Job) (plan : Plan) (e : plan_answer job ≡ answered (layout_of 
         chosen_no_more_tiles job made.passed (cuts_of plan) made.cuts_are rival balanced (sym cost_is ∙ equal);
     faces_differ = λ x y w v face same-owner.
         faces_differ job.p (cuts_of plan) some_processor (chosen_minimal job made.passed (cuts_of plan) made.cuts_are) x y w v face
-        (sym (owner_of x w) ∙ same-owner ∙ owner_of y v);
+        (sym (owner_of_lem x w) ∙ same-owner ∙ owner_of_lem y v);
   }
 
 -- DEMAND 3, for all jobs in the stated ranges and all rivals.

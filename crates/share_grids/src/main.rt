@@ -1,5 +1,6 @@
 // Runs the figures of the smallest share of the machine that is refused too (document 02, request j) on the call. What it prints is held to the file
 // stdout. Each function writes its lines into a lent list from a place on, and answers the place after them.
+#![tactic(auto)]
 ghost use Rattle.std.specs.Prelude.{◌≡◌, length};
 
 use libc::STDOUT_FILENO;

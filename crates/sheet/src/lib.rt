@@ -1,4 +1,6 @@
 // A slab sheet for the job folder: a page of one dimension's slabs with a caption (document 02, request k).
+#![tactic(auto)]
+
 ghost use Rattle.std.specs.Prelude.{◌≡◌, ◌∷◌, ◌++◌, map, ◌+◌, ◌-◌, ◌<◌, ◌≤◌, min, length, take, drop};
 ghost use Rattle.numerals.specs.Decimal.{decimal};
 ghost use Rattle.layout.specs.Plans.{layout_of};
@@ -14,7 +16,7 @@ use tiles::slabs::start;
 // The bytes of a page: 50 lines of 72 columns and a newline.
 const PAGE: usize = 3650;
 
-#[derive(Drop)]
+#[derive(Clone, Copy)]
 pub enum Sheet {
     // the page stands in the lent list
     Written,

@@ -1,5 +1,7 @@
 // The link for a solver in C: the proved calls over plain numbers and lists of 32-bit numbers, or of bytes for a slab sheet. Each call returns 0, or a refusal's number with its
 // place in the upper 32 bits.
+#![tactic(auto)]
+
 ghost use Rattle.std.specs.Prelude.{◌≡◌, ◌≤◌, min, length};
 ghost use Rattle.link_lists.specs.Lists.{Linked};
 ghost use Rattle.solver_link.specs.Link.{planned_listed, plan_link, smallest_refused_link, diagonal_link, hypercube_owner_link, owner_link, neighbour_link, slab_link, slab_of_link, slabs_of_link, slab_sheet_link, tile_number_link, tile_position_link, step_link, timetable_link, chains_link};

@@ -14,19 +14,19 @@ use crate::dimensions::has_dimension;
 use layout::Plan;
 
 // The coordinate along dimension k stands at place k - 1. Places past d are never read, and are zero in answers.
-#[derive(Drop)]
+#[derive(Clone, Copy)]
 pub struct Position {
     pub d: usize,
     pub at: [u32; 5],
 }
 
-#[derive(Drop)]
+#[derive(Clone, Copy)]
 pub enum TileNumber {
     Tile(u32),
     Refused { number: u32, place: u32 },
 }
 
-#[derive(Drop)]
+#[derive(Clone, Copy)]
 pub enum Step {
     Inside,
     Edge,
@@ -34,20 +34,20 @@ pub enum Step {
 }
 
 // Where a step leads: the position is all zero unless the step stays inside.
-#[derive(Drop)]
+#[derive(Clone, Copy)]
 pub struct Moved {
     pub step: Step,
     pub position: Position,
 }
 
-#[derive(Drop)]
+#[derive(Clone, Copy)]
 pub enum Lookup {
     Found,
     Refused { number: u32, place: u32 },
 }
 
 // Where a tile lies: the position is all zero unless it is found.
-#[derive(Drop)]
+#[derive(Clone, Copy)]
 pub struct Located {
     pub lookup: Lookup,
     pub position: Position,

@@ -9,14 +9,14 @@ ghost use Rattle.tiles.specs.Answers.{told_elements, told_slab};
 use crate::dimensions::has_dimension;
 use layout::Plan;
 
-#[derive(Drop)]
+#[derive(Clone, Copy)]
 pub enum Elements {
     // from `first` up to but not including `after`
     Range { first: u32, after: u32 },
     Refused { number: u32, place: u32 },
 }
 
-#[derive(Drop)]
+#[derive(Clone, Copy)]
 pub enum SlabNumber {
     Slab(u32),
     Refused { number: u32, place: u32 },

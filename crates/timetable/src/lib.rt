@@ -1,5 +1,7 @@
 // The sweep timetable: which slab a processor visits at a step of a sweep, how many tiles it works on, whom it sends to afterwards and whom it
 // receives from beforehand. It rests on what the questions and the slabs promise.
+#![tactic(auto)]
+
 mod extents; // extents.rt: whether the product of the other extents fits 32 bits
 mod slab_faces; // slab_faces.rt: a processor's tiles in a slab, and their faces
 
@@ -15,14 +17,14 @@ ghost use Rattle.timetable.specs.Told.{told_message, told_visit, told_visited};
 use layout::Plan;
 
 // Whom a message goes to or comes from, and how many elements it has.
-#[derive(Drop)]
+#[derive(Clone, Copy)]
 pub enum Message {
     Processor { processor: u32, length: u32 },
     // no processor, length 0
     Nobody,
 }
 
-#[derive(Drop)]
+#[derive(Clone, Copy)]
 pub struct Visit {
     pub slab: u32,
     pub tiles: u32,
@@ -30,7 +32,7 @@ pub struct Visit {
     pub expects: Message,
 }
 
-#[derive(Drop)]
+#[derive(Clone, Copy)]
 pub enum Visited {
     At(Visit),
     Refused { number: u32, place: u32 },

@@ -20,7 +20,7 @@ use tiles::slabs::thickness;
 use walks::{Coordinated, Stride};
 
 // The faces of a processor in a slab, or a part of it, and how many tiles they are of.
-#[derive(Drop)]
+#[derive(Clone, Copy)]
 pub struct Tally {
     pub faces: u32,
     pub tiles: u32,

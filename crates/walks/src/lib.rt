@@ -1,5 +1,7 @@
 // Walks from neighbour to neighbour along one dimension: coordinates and stride are found once, and no step divides. Places are counted from
 // 0. A step goes through all five, so that its loop is laid out in a row: past d it adds 0 modulo 1.
+#![tactic(auto)]
+
 ghost use Rattle.std.specs.Prelude.{◌<◌, ◌≡◌};
 ghost use Rattle.layout.specs.Shaped.{Shaped};
 ghost use Rattle.walks.specs.Walks.{IsProcessor, stride_of, Strides, Walkable, Steps};
@@ -8,14 +10,14 @@ use layout::Plan;
 use questions::modulo;
 
 // A processor by its number and its coordinates, zero past d.
-#[derive(Drop)]
+#[derive(Clone, Copy)]
 pub struct Coordinated {
     pub number: u32,
     pub coordinates: [u32; 5],
 }
 
 // The moduli of a plan, and what a step adds to each coordinate.
-#[derive(Drop)]
+#[derive(Clone, Copy)]
 pub struct Stride {
     pub moduli: [u32; 5],
     pub added: [u32; 5],

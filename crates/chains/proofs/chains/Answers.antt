@@ -1,0 +1,14 @@
+-- `chains` meets its contract: the walk goes on to stage 0.
+use native.Mathlib.Omega.{arith}
+use borrow.Author.Rules.{rules}
+use Rattle.multipartition.proofs.Stages.{stage_answer_end}
+use Rattle.layout.specs.Plans.{layout_of}
+use lib.ListN.{length}
+use Rattle.chains.proofs.chains.Goals as goal
+
+pub chains_to-requires : goal.chains_to-requires
+chains_to-requires c = omega arith
+
+pub returns : goal.returns
+returns c =
+    rw (stage_answer_end (layout_of c.args.plan) (length c.args.heads.now) c.args.nexts.now) at c.chains_to.ensures

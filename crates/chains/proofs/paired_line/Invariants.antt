@@ -1,0 +1,13 @@
+use mathlib.Core.Path.{◌≡◌, refl, sym, ap, ◌∙◌}
+use native.Mathlib.Omega.{arith}
+use borrow.Author.Rules.{rules}
+use Rattle.chains.specs.Walks.{lower}
+use Rattle.chains.proofs.Running.{Running, run-one, running_room, running_start, running-ready, running-step, running_end}
+use Rattle.chains.proofs.paired_line.Given as goal
+
+abbrev pub invariant-loop-tile : goal.invariant-loop-tile
+invariant-loop-tile l =
+    (l.next ≡ lower l.downs 0 l.here) × Running l.counts l.downs l.q l.stop l.top l.tile l.here l.initial.heads l.initial.nexts l.heads l.nexts
+
+abbrev pub decreases-loop-tile : goal.decreases-loop-tile
+decreases-loop-tile l = l.tile

@@ -1,0 +1,13 @@
+use mathlib.Core.Path.{◌≡◌}
+use Prim.Native.Nat.{◌+◌, ◌-◌, ◌≤◌, ◌<◌}
+use native.Mathlib.Omega.{arith}
+use borrow.Author.Rules.{rules}
+use Rattle.chains.proofs.Running.{Visiting, visiting_start, visiting-step, visiting_end}
+use Rattle.chains.proofs.rising_run.Given as goal
+
+abbrev pub invariant-loop-i : goal.invariant-loop-i
+invariant-loop-i l =
+    (l.owner ≡ l.q + (l.count - l.i)) × Visiting (λ j. l.q + j) l.top l.count l.i l.tile l.initial.heads l.initial.nexts l.heads l.nexts
+
+abbrev pub decreases-loop-i : goal.decreases-loop-i
+decreases-loop-i l = l.i

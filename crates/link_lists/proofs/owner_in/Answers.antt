@@ -1,0 +1,12 @@
+-- `link_lists::owner_in` meets its contract. Assumes nothing.
+use borrow.Author.Rules.{rules}
+use mathlib.Core.Path.{◌∙◌}
+use native.Mathlib.Omega.{arith}
+use Rattle.link_lists.proofs.Plans.{owner_over_list}
+use Rattle.link_lists.proofs.owner_in.Goals as goal
+
+pub overflow_cast-list : goal.overflow_cast-list
+overflow_cast-list c = omega (arith, c.shared_slice_known-3-1.given 0)
+
+pub returns : goal.returns
+returns c = c.owner_over.ensures ∙ owner_over_list c.args.list.now c.requires c.args.position.now

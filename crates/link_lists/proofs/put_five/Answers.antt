@@ -1,0 +1,6 @@
+-- `link_lists::put_five` meets its contract. Assumes nothing.
+use borrow.Author.Rules.{rules}
+use Rattle.link_lists.proofs.put_five.Goals as goal
+
+pub returns : goal.returns
+returns c = cc

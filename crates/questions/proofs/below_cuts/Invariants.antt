@@ -1,0 +1,15 @@
+use borrow.Author.Rules.{rules}
+use mathlib.Core.Path.{◌≡◌, sym}
+use Prim.Native.Nat.{◌≤◌, ◌-◌}
+use native.Mathlib.Omega.{arith}
+use lib.Dec.{ltb}
+use lib.ListN.{get_or}
+use Rattle.layout.proofs.Lists.{all_none, all-add-one}
+use Rattle.multipartition.specs.Lists.{all_below}
+use Rattle.questions.proofs.below_cuts.Given as goal
+
+abbrev pub invariant-loop-k : goal.invariant-loop-k
+invariant-loop-k l = (l.k ≤ l.d) × (l.ok ≡ all_below l.k (λ j. ltb (get_or l.position j 0) (get_or l.cuts j 0)))
+
+abbrev pub decreases-loop-k : goal.decreases-loop-k
+decreases-loop-k l = l.d - l.k

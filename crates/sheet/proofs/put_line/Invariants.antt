@@ -1,0 +1,16 @@
+-- `put_line` meets its contract. The invariant: the first i bytes of the line stand.
+use mathlib.Core.Path.{◌≡◌, refl, ◌∙◌}
+use Prim.Native.Nat.{◌+◌, ◌-◌, ◌≤◌}
+use native.Mathlib.Numerals.{add-one}
+use native.Mathlib.Omega.{arith}
+use lib.ListN.{length, length-set}
+use lib.Seq.{paste, paste-zero, paste-suc}
+use borrow.Author.Rules.{rules}
+use Rattle.sheet.proofs.Writing.{line_ended}
+use Rattle.sheet.proofs.put_line.Given as goal
+
+abbrev pub invariant-loop-i : goal.invariant-loop-i
+invariant-loop-i l = (l.i ≤ 72) × (length l.page ≡ length l.initial.page) × (l.page ≡ paste l.initial.page l.at l.line l.i)
+
+abbrev pub decreases-loop-i : goal.decreases-loop-i
+decreases-loop-i l = 72 - l.i

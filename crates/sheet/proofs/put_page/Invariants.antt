@@ -1,0 +1,15 @@
+use mathlib.Core.Path.{◌≡◌, sym, ap, ◌∙◌}
+use Prim.Native.Nat.{ℕ, ◌-◌, ◌*◌, ◌≤◌}
+use native.Mathlib.Omega.{arith}
+use lib.ListN.{length}
+use borrow.Author.Rules.{rules}
+use Rattle.sheet.specs.Pages.{sheet_line}
+use Rattle.sheet.proofs.Pages.{length-sheet_line, written, written_none, written_next, written_all}
+use Rattle.sheet.proofs.put_page.Given as goal
+
+abbrev pub invariant-loop-i : goal.invariant-loop-i
+invariant-loop-i l =
+    (l.i ≤ 50) × (length l.page ≡ 3650) × (l.page ≡ written (sheet_line l.n l.b l.share l.caption) l.initial.page l.s l.i)
+
+abbrev pub decreases-loop-i : goal.decreases-loop-i
+decreases-loop-i l = 50 - l.i

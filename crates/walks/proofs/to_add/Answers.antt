@@ -1,0 +1,6 @@
+-- `walks::to_add` meets its contract. Assumes nothing.
+use borrow.Author.Rules.{rules}
+use Rattle.walks.proofs.to_add.Goals as goal
+
+pub returns : goal.returns
+returns c = rw c.if-up.false c.modulo.ensures
