@@ -5,6 +5,9 @@ use Prim.Native.Nat.{ℕ, ◌+◌, ◌*◌}
 use lib.ListN.{length}
 use borrow.Author.Tests.{eq-eqb, ne_eqb}
 use Rattle.multipartition.specs.Answers.{Answer, answered, refused, checked, held_by}
+use Rattle.chains.specs.declared.Chained.{Chained}
+use Rattle.chains.specs.Told.{told_chained}
+use Rattle.chains.specs.Told as chains
 use Rattle.probes.specs.declared.Probed.{Probed}
 use Rattle.probes.specs.Told.{told_probed}
 use Rattle.probes.specs.Told as probes
@@ -41,6 +44,13 @@ pub linked-told : {A : Type 0} (list : List ℕ) (asked : Answer A) (told : A �
     → told after ≡ asked → after ≡ held_by asked lent → (code : ℕ) → ((lists : A) → code ≡ code_of (told lists))
     → Linked (checked (plan_list_check list ∷ []) asked) lent code after
 linked-told list asked told lent after e same held code sum = rw (eq-eqb _ _ e) (record { returned = sum after ∙ ap code_of same; held = held })
+
+-- the chains of a plan list
+pub linked-chains : (list : List ℕ) (asked : Answer (List ℕ × List ℕ)) (chained : Chained) (lent after : List ℕ × List ℕ) → length list ≡ plan_places
+    → chains.Answers asked chained lent after → (code : ℕ) → ((lists : List ℕ × List ℕ) → code ≡ code_of (told_chained chained lists))
+    → Linked (checked (plan_list_check list ∷ []) asked) lent code after
+linked-chains list asked chained lent after e answers code sum =
+    linked-told list asked (told_chained chained) lent after e answers.told answers.held code sum
 
 -- the slabs of a probe line of a plan list
 pub linked_probes : (list : List ℕ) (asked : Answer (List ℕ)) (probed : Probed) (lent after : List ℕ) → length list ≡ plan_places
