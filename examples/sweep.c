@@ -3,7 +3,7 @@
  * goes on to the next slab, goes through that processor's tiles, and prints the timetable of the sweep: what each processor receives, works on and
  * sends in each step. It has probes along dimension 3, and asks which slab each is in and who works on it. Then it asks for the two older layouts.
  *
- *     rt staticlib solver_link
+ *     ./build-link
  *     cc -Iinclude examples/sweep.c target/staticlib/libsolver_link.a -o target/sweep && target/sweep
  */
 #include <inttypes.h>

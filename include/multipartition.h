@@ -1,6 +1,6 @@
 /* Even tiles for line sweeps: plans and questions about them, for a solver in C.
  *
- * Link target/staticlib/libsolver_link.a, which `rt staticlib solver_link` proves and builds.
+ * Link target/staticlib/libsolver_link.a, which `./build-link` proves and builds.
  *
  * Lists are of 32-bit numbers, and each is passed as a pointer and its length, which counts numbers, not bytes; only the caption and the page of a
  * slab sheet are lists of bytes, and their lengths count bytes. Dimensions are numbered from 1; processors, slabs, elements, steps of a sweep and

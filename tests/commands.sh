@@ -240,7 +240,7 @@ test_building() {
     # The stand-in reads its standard input to the end, as a tool may, and does what the file `does` says.
     cat >"$room/tools/rt" <<END
 #!/bin/sh
-echo "\$*" >>'$room/runs'
+echo "\$* in \$PWD" >>'$room/runs'
 cat >/dev/null
 . '$room/does'
 END
@@ -259,16 +259,23 @@ END
     ln -s "$room/nowhere/file" "$copy/target/$runner-began"
     not_built 'a time that cannot be kept' "$copy/target/$runner-began cannot be written"
     rm -r "$copy/target"
-    makes="mkdir -p target/bin && cp '$here/target/bin/$program' target/bin/$program"
-    echo "$makes && rm target/$runner-began" >"$room/does"
+    makes="mkdir -p out && cp '$here/target/bin/$program' out/$program"
+    echo "$makes && rm ../../target/$runner-began" >"$room/does"
     not_built 'a time that is lost' "$copy/target/bin/$program cannot be given the time of $copy/target/$runner-began"
     rm -r "$copy/target"
 
-    echo "echo progress; $makes" >"$room/does"
+    echo "$makes" >"$room/does"
+    mkdir "$copy/target"
+    touch "$copy/target/bin"
+    not_built 'a file in place of the folder bin' "$copy/target/bin/$program cannot be written"
+    rm -r "$copy/target" "$copy/crates/$program/out"
+
+    echo "echo progress >&2; echo the program prints; $makes" >"$room/does"
     built 'the first run' 0
-    [ "$(cat "$room/runs")" = "check $program" ] || fail 'the first run: rt was called otherwise'
+    [ "$(cat "$room/runs")" = "run in $copy/crates/$program" ] || fail 'the first run: rt was called otherwise'
     tells 'the first run' 'for the first time'
     grep -q '^progress$' "$err" || fail 'the first run: what rt says is lost'
+    if grep -q '^the program prints$' "$err"; then fail 'the first run: what the program prints while it is built is not dropped'; fi
     built 'the second run' 0
     [ "$runs" -eq 0 ] || fail 'the second run: built again'
     silent 'the second run'
@@ -355,7 +362,7 @@ test_changes() {
     silent 'the run after a check that changes nothing'
 
     # A change during the check is seen by the next run.
-    echo 'sleep 1; touch crates.txt' >"$room/does"
+    echo 'sleep 1; touch ../../crates.txt' >"$room/does"
     touch "$copy/crates.txt"
     built 'a change during the check' 0
     built 'the run after a change during the check' 0

@@ -1,4 +1,4 @@
-//! Links target/staticlib/libsolver_link.a, which `rt staticlib solver_link` proves and builds.
+//! Links target/staticlib/libsolver_link.a, which `./build-link` proves and builds.
 
 use std::env;
 use std::path::Path;

@@ -1,14 +1,15 @@
 // Runs the grids of document 01 that are not starred, the examples beside its table, the slabs of document 02's request d, jobs of its requests f and g, tile numbers of its request i, probe lines, and figures of the timetable, on the calls. What it prints is held to the file stdout.
 // Each function writes its lines into a lent list from a place on, and answers the place after them.
 #![tactic(auto)]
+
 ghost use Rattle.std.specs.Prelude.{◌≡◌, length};
 
 use chains::Chained;
 use layout::Plan;
-use libc::STDOUT_FILENO;
 use planner::Planned;
 use probes::Probed;
 use questions::{Neighbour, Owner};
+use std::io::Write;
 use tiles::positions::{Lookup, Position, TileNumber};
 use tiles::slabs::{Elements, SlabNumber};
 use timetable::{Message, Visit, Visited};
@@ -531,7 +532,7 @@ fn put_probe_lines(out: &mut [u8], at: usize) -> usize
     put_falling(out, next, planned.plan)
 }
 
-fn main() {
+fn main(rt: HostRuntime) {
     let mut out = [0u8; 4096];
     let mut n = put_squares(&mut out, 0);
     n = put_tiles(&mut out, n);
@@ -549,7 +550,6 @@ fn main() {
     n = put_thick(&mut out, n);
     n = put_probe_lines(&mut out, n);
     if n <= 4096 {
-        let k = io::count(n as isize, &out);
-        io::write_all(STDOUT_FILENO, &out[..k]);
+        let _ = rt.stdout().write_all(&out[..n]);
     }
 }

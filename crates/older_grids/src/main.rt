@@ -1,12 +1,13 @@
 // Runs figures of the diagonal layouts and of the hypercube layout on the calls. What it prints is held to the file stdout. Each function writes its
 // lines into a lent list from a place on, and answers the place after them.
 #![tactic(auto)]
+
 ghost use Rattle.std.specs.Prelude.{◌≡◌, length};
 
 use layout::Plan;
-use libc::STDOUT_FILENO;
 use plan_text::Printed;
 use questions::Owner;
+use std::io::Write;
 
 // A word, numbers and a line end.
 fn put_line(out: &mut [u8], at: usize, word: &[u8], numbers: &[u32]) -> usize
@@ -34,8 +35,7 @@ fn put_plan(out: &mut [u8], at: usize, plan: Plan) -> usize
             if 256 < n {
                 return at;
             }
-            let k = io::count(n as isize, &text);
-            numerals::put_bytes(out, at, &text[..k])
+            numerals::put_bytes(out, at, &text[..n])
         }
         Printed::Refused { number, place } => put_refused(out, at, number, place),
     }
@@ -197,7 +197,7 @@ fn put_refused_cubes(out: &mut [u8], at: usize) -> usize
     put_hypercube(out, next, 0, &outside)
 }
 
-fn main() {
+fn main(rt: HostRuntime) {
     let mut out = [0u8; 1024];
     let mut n = put_first_figure(&mut out, 0);
     n = put_plans(&mut out, n);
@@ -208,7 +208,6 @@ fn main() {
     n = put_large_cubes(&mut out, n);
     n = put_refused_cubes(&mut out, n);
     if n <= 1024 {
-        let k = io::count(n as isize, &out);
-        io::write_all(STDOUT_FILENO, &out[..k]);
+        let _ = rt.stdout().write_all(&out[..n]);
     }
 }

@@ -1,7 +1,8 @@
 // The program: reads a job line from standard input and prints its plan, or a refusal, to standard output. Of a job refused with 5 it tells the
 // smallest divisor of p that is refused so, on standard error.
 #![tactic(auto)]
-ghost use Rattle.std.specs.Prelude.{◌≡◌, ◌≤◌, min, length, take};
+
+ghost use Rattle.std.specs.Prelude.{◌≡◌, ◌+◌, ◌≤◌, IfOk, min, length, take};
 ghost use Rattle.numerals.specs.Output.{Written};
 ghost use Rattle.refused_share.specs.Told.{told_share};
 ghost use Rattle.plan_text.specs.Told.{Hands};
@@ -10,10 +11,11 @@ ghost use Rattle.plan.specs.Prints.{job_of_line, Answers, Runs};
 ghost use Rattle.plan.specs.Printed.{Asks, planned_answer};
 
 use job_text::Line;
-use libc::{STDERR_FILENO, STDIN_FILENO, STDOUT_FILENO};
 use plan_text::Printed;
 use planner::Planned;
 use refused_share::RefusedShare;
+use std::io;
+use std::io::{Read, Write};
 
 // How many bytes the program reads at most, and how many it can print.
 const READ: usize = 256;
@@ -25,13 +27,6 @@ const NO_CUTS: [u8; 135] =
     *b"plan: no cuts that fit this grid give every processor equally many tiles in every slab; the smallest divisor of p for which none do is ";
 
 const TOLD: usize = 140;
-
-// What came of reading: so many bytes, or a read that failed.
-#[derive(Clone, Copy)]
-enum Input {
-    Bytes(usize),
-    Failed,
-}
 
 // The two answers to a job: the planner's, and the smallest share that is refused too.
 #[derive(Clone, Copy)]
@@ -139,36 +134,36 @@ fn run(input: [u8; READ], n: usize, out: &mut [u8; ROOM], err: &mut [u8; TOLD]) 
 }
 
 // One read into the list, behind its first `done` places.
-fn read_on(input: &mut [u8], done: usize) -> isize
+fn read_on(reader: &mut impl Read, input: &mut [u8], done: usize) -> io::Result<usize>
     requires { done ≤ length input.old }
+    ensures { IfOk result (λ n. done + n ≤ length input.old) }
 {
-    libc::read(STDIN_FILENO, &mut input[done..])
+    reader.read(&mut input[done..])
 }
 
-// Reads until the list is full, the input ends or a read fails.
-fn read_input(input: &mut [u8]) -> Input {
+// Reads until the list is full, the input ends or a read fails, and answers how many bytes were read.
+fn read_input(reader: &mut impl Read, input: &mut [u8]) -> io::Result<usize>
+    ensures { IfOk result (λ n. n ≤ length input.old) }
+{
     let mut done = 0;
     while done < input.len() {
-        let got = read_on(input, done);
-        if got < 0 {
-            return Input::Failed;
-        }
-        let more = io::count(got, &input[done..]);
+        let more = read_on(reader, input, done)?;
         if more == 0 {
-            return Input::Bytes(done);
+            break;
         }
         done += more;
     }
-    Input::Bytes(done)
+    Ok(done)
 }
 
-// A program has no exit status: where a read or a write fails, it says so on standard error, and where a read fails it prints nothing. Only a reader
-// that has left ends it without a word, by SIGPIPE; run-plan, which reads all of the answer itself, sees to that. What is told comes after the answer.
-fn main() {
+// The exit status is 0 in any case: where a read or a write fails, as to a reader that has left, the program says so on standard error, and where a
+// read fails it prints nothing. What is told comes after the answer.
+fn main(rt: HostRuntime) {
     let mut input = [0u8; READ];
-    let got = read_input(&mut input);
-    let Input::Bytes(n) = got else {
-        io::write_all(STDERR_FILENO, b"plan: the input could not be read\n");
+    let Ok(n) = read_input(&mut rt.stdin(), &mut input) else {
+        let _ = rt
+            .stderr()
+            .write_all(b"plan: the input could not be read\n");
         return;
     };
     let mut out = [0u8; ROOM];
@@ -176,11 +171,10 @@ fn main() {
     let counts = run(input, n, &mut out, &mut err);
     let m = counts.printed;
     let t = counts.told;
-    if !io::write_all(STDOUT_FILENO, &out[..m]) {
-        io::write_all(
-            STDERR_FILENO,
-            b"plan: the output could not be written in full\n",
-        );
+    if rt.stdout().write_all(&out[..m]).is_err() {
+        let _ = rt
+            .stderr()
+            .write_all(b"plan: the output could not be written in full\n");
     }
-    io::write_all(STDERR_FILENO, &err[..t]);
+    let _ = rt.stderr().write_all(&err[..t]);
 }

@@ -1,10 +1,11 @@
 // Runs the figures of the smallest share of the machine that is refused too (document 02, request j) on the call. What it prints is held to the file
 // stdout. Each function writes its lines into a lent list from a place on, and answers the place after them.
 #![tactic(auto)]
+
 ghost use Rattle.std.specs.Prelude.{◌≡◌, length};
 
-use libc::STDOUT_FILENO;
 use refused_share::RefusedShare;
+use std::io::Write;
 
 // A word, numbers and a line end.
 fn put_line(out: &mut [u8], at: usize, word: &[u8], numbers: &[u32]) -> usize
@@ -85,13 +86,12 @@ fn put_others(out: &mut [u8], at: usize) -> usize
     put_share(out, next, 12, 2, &flat, &ones[..2], &none)
 }
 
-fn main() {
+fn main(rt: HostRuntime) {
     let mut out = [0u8; 256];
     let mut n = put_planes(&mut out, 0);
     n = put_solids(&mut out, n);
     n = put_others(&mut out, n);
     if n <= 256 {
-        let k = io::count(n as isize, &out);
-        io::write_all(STDOUT_FILENO, &out[..k]);
+        let _ = rt.stdout().write_all(&out[..n]);
     }
 }
