@@ -5,12 +5,11 @@ use mathlib.Core.Logic.{⊎_elim}
 use Prim.Native.Nat.{ℕ, zero, suc, ◌+◌, ◌-◌, ◌*◌, ◌/◌, ◌%◌, ◌<◌, ◌≤◌, max}
 use native.Mathlib.Nat.{eq-zero-or-pos, eq-or-lt_of_le}
 use native.Mathlib.Omega.{arith}
-use lib.ListN.{length, get_or, set, length-set}
-use lib.Seq.{get_or-set_same, get_or-set_other, set-set}
+use lib.ListN.{length, get_or, set}
+use lib.Seq.{get_or-set_same, get_or-set_other}
 use Rattle.multipartition.specs.Chains.{Stage}
-use Rattle.multipartition.proofs.Stages.{stage-step}
 use Rattle.chains.specs.Stages.{Onward}
-use Rattle.chains.specs.Walks.{block_size, BlockTop, lower, Falls, Rises, Tables, Led, Run, Walks}
+use Rattle.chains.specs.Walks.{BlockTop, lower, Falls, Rises, Tables, Led, Run, Walks}
 use Rattle.chains.proofs.Walking.{line_size, top_coordinate, Across, across_start, across_within, across_end}
 
 -- ---- a run, tile by tile

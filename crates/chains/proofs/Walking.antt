@@ -1,12 +1,11 @@
 -- How far the walk has come along place k of a block: from the top of one block of level k to the top of the next one down is one step down along k.
-use mathlib.Core.Path.{◌≡◌, refl, sym, ap, ◌∙◌, subst, subst⁻¹}
+use mathlib.Core.Path.{◌≡◌, refl, ap, ◌∙◌, subst, subst⁻¹}
 use mathlib.Core.List.{List}
 use Prim.Native.Nat.{ℕ, suc, ◌+◌, ◌-◌, ◌*◌, ◌/◌, ◌%◌, ◌<◌, ◌≤◌, max}
 use native.Mathlib.Nat.{mul-le-mul_right, mul-add-mod_self_right, mod-eq_of_lt}
 use native.Mathlib.Omega.{arith}
 use lib.Arith.{digits_div}
 use lib.ListN.{length, get_or}
-use Rattle.numbers.specs.Products.{product}
 use Rattle.multipartition.specs.Chains.{Stage}
 use Rattle.layout.proofs.Lists.{product-add-one, product_pos}
 use Rattle.chains.specs.Walks.{block_size, BlockTop, lower, Tables, Led, Walks}

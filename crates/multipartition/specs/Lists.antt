@@ -1,6 +1,6 @@
 -- Lists of numbers, as the definitions of this crate read them. A list has one number a dimension and runs from dimension 1 to dimension d, so
 -- that place k, counted from 0, is dimension k + 1.
-use Rattle.std.specs.Prelude.{Bool, true, false, cond, ◌&&◌, List, [], ◌∷◌, ◌++◌, map, ℕ, zero, suc, ◌+◌}
+use Rattle.std.specs.Prelude.{Bool, true, cond, ◌&&◌, List, [], ◌∷◌, ◌++◌, map, ℕ, zero, suc, ◌+◌}
 
 -- the first number, 0 where there is none, and the numbers after it
 abbrev pub first : List ℕ → ℕ

@@ -1,6 +1,6 @@
 -- The matrix (document 01, "Owners"; source 001, section 6). Its rows are rows of whole numbers until the last row is finished.
 -- Where rows are finished, the lists run backward, from dimension i - 1 down to dimension 2: that is the order in which row i takes them.
-use Rattle.std.specs.Prelude.{List, [], ◌∷◌, reverse, ℕ, zero, suc, ◌+◌, ◌-◌, ◌*◌, ◌/◌, ◌%◌, ℤ, pos, negsuc, ◌-ℤ◌, ◌*ℤ◌, length}
+use Rattle.std.specs.Prelude.{List, [], ◌∷◌, reverse, ℕ, suc, ◌+◌, ◌-◌, ◌*◌, ◌/◌, ◌%◌, ℤ, pos, negsuc, ◌-ℤ◌, ◌*ℤ◌, length}
 use Rattle.numbers.specs.Gcd.{gcd}
 use Rattle.numbers.specs.Sums.{same}
 use Rattle.multipartition.specs.Lists.{first, rest, list_of}

@@ -1,10 +1,10 @@
 -- A line while it is filled field by field, from the left; and how long its fields are.
 use mathlib.Core.Path.{◌≡◌, refl, sym, ap, ◌∙◌}
 use mathlib.Core.List.{List, [], ◌++◌, map, append_assoc, append-nil}
-use Prim.Native.Nat.{ℕ, zero, suc, ◌+◌, ◌-◌, min, ◌≤◌, ◌<◌}
+use Prim.Native.Nat.{ℕ, zero, suc, ◌+◌, ◌-◌, ◌≤◌, ◌<◌}
 use native.Mathlib.Omega.{arith}
 use lib.ListN.{length, take, drop, length-append, length-replicate, length-map, length-take, replicate-append-replicate}
-use lib.Seq.{take_at, drop_at, drop-append-add}
+use lib.Seq.{take_at, drop-append-add}
 use Rattle.numerals.specs.Decimal.{decimal}
 use Rattle.numerals.proofs.Decimal.{length-decimal}
 use Rattle.sheet.specs.Lines.{blanks, right_aligned, shown, left_aligned, slab_line}

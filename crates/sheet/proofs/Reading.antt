@@ -1,19 +1,18 @@
 -- What a page that is answered holds, and that the tiles per processor are exact for the planner's and diagonal plans.
 use mathlib.Core.Path.{◌≡◌, refl, sym, ap, ◌∙◌, subst, subst⁻¹}
-use mathlib.Core.Bool.{true, not}
+use mathlib.Core.Bool.{true}
 use mathlib.Core.List.{List, [], ◌∷◌, ◌++◌}
 use mathlib.Core.Logic.{◌↔◌}
 use Prim.Native.Nat.{ℕ, ◌+◌, ◌-◌, ◌*◌, ◌/◌, ◌%◌, ◌≤◌, ◌<◌, ◌∣◌}
-use native.Mathlib.Nat.{div-le_self, div-mul_cancel}
+use native.Mathlib.Nat.{div-mul_cancel}
 use native.Mathlib.Omega.{arith}
 use borrow.Author.Tests.{leb-true, le-leb, lt-ltb, le-ltb, eqb-true, eq-eqb, not-false}
 use lib.Dec.{leb, eqb}
-use lib.ListN.{length, get_or}
+use lib.ListN.{length}
 use Rattle.multipartition.specs.Answers.{answered, Check}
 use Rattle.multipartition.specs.Jobs.{plan_answer}
 use Rattle.multipartition.specs.Plans.{Job, Layout, tiles_of, between, in_shape}
 use Rattle.multipartition.specs.Questions.{extent_of, cut_of, owner_by, shape_check, dimension_check, range_check, length_check, slab_answer}
-use Rattle.multipartition.specs.Rivals.{held}
 use Rattle.multipartition.specs.Slabs.{slab_start, slab_end}
 use Rattle.multipartition.proofs.Answers.{answers_iff}
 use Rattle.multipartition.proofs.BothWays.{slab_answered}
@@ -31,7 +30,7 @@ use Rattle.rivals.proofs.EvenPlans.{held-ext, owner_by_lem}
 use Rattle.rivals.proofs.Demand3.{planner_even}
 use Rattle.rivals.proofs.DiagonalPlans.{diagonal_even}
 use Rattle.sheet.specs.Lines.{blanks, slab_line}
-use Rattle.sheet.specs.Pages.{tiles_each, sheet_line, lines_from, sheet_page, sheet_answer, Fits}
+use Rattle.sheet.specs.Pages.{tiles_each, sheet_line, sheet_page, sheet_answer, Fits}
 use Rattle.sheet.specs.Reading.{line_in, PageOf, ExactShare}
 use Rattle.sheet.proofs.Outcomes.{each_high}
 use Rattle.sheet.proofs.Pages.{length-sheet_line, length_lines, line_at}

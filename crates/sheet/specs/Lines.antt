@@ -1,5 +1,5 @@
 -- The lines of a slab sheet (document 02, request k). A line is a list of bytes, one a column; a blank is the byte 32.
-use Rattle.std.specs.Prelude.{cond, List, [], ◌∷◌, ◌++◌, map, ℕ, ◌-◌, length, take, replicate}
+use Rattle.std.specs.Prelude.{cond, List, ◌++◌, map, ℕ, ◌-◌, length, take, replicate}
 use Rattle.numerals.specs.Decimal.{decimal}
 use Rattle.multipartition.specs.Plans.{between}
 

@@ -6,7 +6,7 @@ use Prim.Native.Nat.{ℕ, zero, suc, ◌<◌, ◌≤◌}
 use native.Mathlib.Nat.{le_refl, mul-le-mul_right}
 use native.Mathlib.Omega.{arith}
 use lib.Dec.{ltb, eqb}
-use lib.ListN.{length, get_or, take, drop, replicate, length-append, length-replicate}
+use lib.ListN.{length, get_or, drop, replicate, length-append, length-replicate}
 use lib.Seq.{length-take-le, take-append-le, get_or-take, sets}
 use borrow.Author.Tests.{eqb-true}
 use Rattle.multipartition.specs.MixedRadix.{number_up}

@@ -1,5 +1,5 @@
 -- The sweep timetable (document 02, request b). A question numbers dimensions from 1, slabs, steps and processors from 0; true is up.
-use Rattle.std.specs.Prelude.{Bool, true, false, not, cond, ◌&&◌, List, [], ◌∷◌, ◌≡◌, ℕ, suc, ◌-◌, ◌≤◌, ◌<◌, leb, ltb, eqb}
+use Rattle.std.specs.Prelude.{Bool, true, false, not, cond, ◌&&◌, [], ◌∷◌, ◌≡◌, ℕ, suc, ◌-◌, ◌≤◌, ◌<◌, leb, ltb, eqb}
 use Rattle.std.proofs.Math.Option.{Option, none, some}
 use Rattle.numbers.specs.Products.{product, without}
 use Rattle.multipartition.specs.Answers.{Answer, answered, refused, Check, checked}

@@ -1,6 +1,5 @@
 -- `chains` meets its contract: the walk goes on to stage 0.
 use native.Mathlib.Omega.{arith}
-use borrow.Author.Rules.{rules}
 use Rattle.multipartition.proofs.Stages.{stage_answer_end}
 use Rattle.layout.specs.Plans.{layout_of}
 use lib.ListN.{length}

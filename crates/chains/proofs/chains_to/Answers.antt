@@ -3,7 +3,6 @@ use mathlib.Core.Path.{ap}
 use mathlib.Core.Bool.{not}
 use mathlib.Core.Path.{sym, ◌∙◌}
 use borrow.Author.Tests.{not-true, not-false}
-use borrow.Author.Rules.{rules}
 use Rattle.layout.specs.Plans.{layout_of}
 use Rattle.layout.proofs.Shaped.{shaped}
 use Rattle.chains.proofs.Outcomes.{out_of_shape, other_heads, other_nexts, filled}

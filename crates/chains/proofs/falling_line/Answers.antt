@@ -1,8 +1,7 @@
 -- `falling_line` meets its contract: the walk along place 0, by runs whose owners fall.
 use Prim.Native.Nat.{◌-◌}
 use native.Mathlib.Omega.{arith}
-use borrow.Author.Rules.{rules}
-use Rattle.chains.proofs.Running.{Running, running_room, running_start, running-ready, running-step, running_end}
+use Rattle.chains.proofs.Running.{running_room, running_start, running-ready, running-step, running_end}
 use Rattle.chains.proofs.falling_line.Goals as goal
 
 pub overflow_sub-top : goal.overflow_sub-top

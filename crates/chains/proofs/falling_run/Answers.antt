@@ -2,8 +2,7 @@
 use Prim.Native.Nat.{ℕ, ◌+◌, ◌-◌, ◌≤◌}
 use mathlib.Core.Path.{◌≡◌}
 use native.Mathlib.Omega.{arith}
-use borrow.Author.Rules.{rules}
-use Rattle.chains.proofs.Running.{Visiting, visiting_start, visiting-step, visiting_end}
+use Rattle.chains.proofs.Running.{visiting_start, visiting-step, visiting_end}
 use Rattle.chains.proofs.falling_run.Goals as goal
 
 -- the place and the owner of the tile that is visited when i are left

@@ -1,9 +1,8 @@
 -- `falling_runs` meets its contract: each run by the one before.
 use mathlib.Core.Path.{◌≡◌}
-use Prim.Native.Nat.{ℕ, ◌+◌, ◌-◌, ◌≤◌, ◌<◌}
+use Prim.Native.Nat.{◌+◌, ◌-◌}
 use native.Mathlib.Omega.{arith}
-use lib.ListN.{length, get_or, length-set}
-use borrow.Author.Rules.{rules}
+use lib.ListN.{length-set}
 use Rattle.chains.specs.Walks.{Falls}
 use Rattle.chains.proofs.Filling.{places_more}
 use Rattle.chains.proofs.Running.{falls-next}

@@ -1,5 +1,4 @@
 -- `fill` meets its contract: the walk begins where no tile is visited.
-use borrow.Author.Rules.{rules}
 use Rattle.multipartition.specs.Plans.{tiles_of}
 use Rattle.multipartition.specs.Questions.{tile_owner}
 use Rattle.multipartition.proofs.Stages.{stage_start}

@@ -1,6 +1,5 @@
 -- `join` meets its contract.
 use native.Mathlib.Omega.{arith}
-use borrow.Author.Rules.{rules}
 use Rattle.chains.proofs.Counting.{group_high, grouped_on, grouped_more}
 use Rattle.chains.proofs.join.Goals as goal
 

@@ -1,6 +1,5 @@
 -- `leaps` meets its contract: each way has its own table.
 use native.Mathlib.Omega.{arith}
-use borrow.Author.Rules.{rules}
 use Rattle.chains.proofs.leaps.Goals as goal
 
 pub returns-then-smaller-ge32 : goal.returns-then-smaller-ge32

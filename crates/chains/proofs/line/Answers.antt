@@ -1,7 +1,6 @@
 -- `line` meets its contract: each way its own.
 use mathlib.Core.Path.{◌≡◌}
 use native.Mathlib.Omega.{arith}
-use borrow.Author.Rules.{rules}
 use Rattle.chains.proofs.line.Goals as goal
 
 pub falling_line-requires : goal.falling_line-requires

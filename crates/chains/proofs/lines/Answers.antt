@@ -2,9 +2,8 @@
 use mathlib.Core.Path.{sym, ap, subst⁻¹}
 use Prim.Native.Nat.{ℕ, ◌-◌}
 use native.Mathlib.Omega.{arith}
-use borrow.Author.Rules.{rules}
 use Rattle.chains.specs.Walks.{Leaps}
-use Rattle.chains.proofs.Walking.{Across, across_start, across-ready, across_room, across-step, across-done, line_size}
+use Rattle.chains.proofs.Walking.{across_start, across-ready, across_room, across-step, across-done, line_size}
 use Rattle.chains.proofs.lines.Goals as goal
 
 pub loop-left-init : goal.loop-left-init

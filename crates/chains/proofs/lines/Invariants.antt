@@ -1,9 +1,4 @@
-use mathlib.Core.Path.{sym, ap, subst⁻¹}
-use Prim.Native.Nat.{ℕ, ◌-◌}
-use native.Mathlib.Omega.{arith}
-use borrow.Author.Rules.{rules}
-use Rattle.chains.specs.Walks.{Leaps}
-use Rattle.chains.proofs.Walking.{Across, across_start, across-ready, across_room, across-step, across-done, line_size}
+use Rattle.chains.proofs.Walking.{Across}
 use Rattle.chains.proofs.lines.Given as goal
 
 abbrev pub invariant-loop-left : goal.invariant-loop-left

@@ -1,9 +1,8 @@
 -- `paired_line` meets its contract: the walk along place 0, with the owner of the tile and that of the next one.
-use mathlib.Core.Path.{◌≡◌, refl, sym, ap, ◌∙◌}
+use mathlib.Core.Path.{refl, sym, ap, ◌∙◌}
 use native.Mathlib.Omega.{arith}
-use borrow.Author.Rules.{rules}
 use Rattle.chains.specs.Walks.{lower}
-use Rattle.chains.proofs.Running.{Running, run-one, running_room, running_start, running-ready, running-step, running_end}
+use Rattle.chains.proofs.Running.{run-one, running_room, running_start, running-ready, running-step, running_end}
 use Rattle.chains.proofs.paired_line.Goals as goal
 
 pub overflow_sub-top : goal.overflow_sub-top

@@ -1,8 +1,6 @@
-use mathlib.Core.Path.{◌≡◌, refl, sym, ap, ◌∙◌}
-use native.Mathlib.Omega.{arith}
-use borrow.Author.Rules.{rules}
+use mathlib.Core.Path.{◌≡◌}
 use Rattle.chains.specs.Walks.{lower}
-use Rattle.chains.proofs.Running.{Running, run-one, running_room, running_start, running-ready, running-step, running_end}
+use Rattle.chains.proofs.Running.{Running}
 use Rattle.chains.proofs.paired_line.Given as goal
 
 abbrev pub invariant-loop-tile : goal.invariant-loop-tile

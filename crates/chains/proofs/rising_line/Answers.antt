@@ -2,8 +2,7 @@
 use Prim.Native.Nat.{◌+◌, ◌≤◌}
 use native.Mathlib.Omega.{arith}
 use lib.ListN.{length}
-use borrow.Author.Rules.{rules}
-use Rattle.chains.proofs.Running.{Running, running_room, running_start, running-ready, running-step, running_end}
+use Rattle.chains.proofs.Running.{running_room, running_start, running-ready, running-step, running_end}
 use Rattle.chains.proofs.rising_line.Goals as goal
 
 pub overflow_sub-top : goal.overflow_sub-top

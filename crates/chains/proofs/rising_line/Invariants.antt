@@ -1,8 +1,4 @@
-use Prim.Native.Nat.{◌+◌, ◌≤◌}
-use native.Mathlib.Omega.{arith}
-use lib.ListN.{length}
-use borrow.Author.Rules.{rules}
-use Rattle.chains.proofs.Running.{Running, running_room, running_start, running-ready, running-step, running_end}
+use Rattle.chains.proofs.Running.{Running}
 use Rattle.chains.proofs.rising_line.Given as goal
 
 abbrev pub invariant-loop-tile : goal.invariant-loop-tile

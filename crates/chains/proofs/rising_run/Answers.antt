@@ -2,8 +2,7 @@
 use mathlib.Core.Path.{◌≡◌}
 use Prim.Native.Nat.{◌+◌, ◌-◌, ◌≤◌, ◌<◌}
 use native.Mathlib.Omega.{arith}
-use borrow.Author.Rules.{rules}
-use Rattle.chains.proofs.Running.{Visiting, visiting_start, visiting-step, visiting_end}
+use Rattle.chains.proofs.Running.{visiting_start, visiting-step, visiting_end}
 use Rattle.chains.proofs.rising_run.Goals as goal
 
 pub loop-i-init : goal.loop-i-init

@@ -1,8 +1,6 @@
 use mathlib.Core.Path.{◌≡◌}
-use Prim.Native.Nat.{◌+◌, ◌-◌, ◌≤◌, ◌<◌}
-use native.Mathlib.Omega.{arith}
-use borrow.Author.Rules.{rules}
-use Rattle.chains.proofs.Running.{Visiting, visiting_start, visiting-step, visiting_end}
+use Prim.Native.Nat.{◌+◌, ◌-◌}
+use Rattle.chains.proofs.Running.{Visiting}
 use Rattle.chains.proofs.rising_run.Given as goal
 
 abbrev pub invariant-loop-i : goal.invariant-loop-i

@@ -1,9 +1,8 @@
 -- `rising_runs` meets its contract: each run by the one after.
 use mathlib.Core.Path.{◌≡◌}
-use Prim.Native.Nat.{ℕ, ◌+◌, ◌-◌, ◌≤◌, ◌<◌}
+use Prim.Native.Nat.{◌+◌, ◌-◌, ◌≤◌, ◌<◌}
 use native.Mathlib.Omega.{arith}
-use lib.ListN.{length, get_or, length-set}
-use borrow.Author.Rules.{rules}
+use lib.ListN.{length-set}
 use Rattle.chains.specs.Walks.{Rises}
 use Rattle.chains.proofs.Running.{rises_next, places_down}
 use Rattle.chains.proofs.rising_runs.Goals as goal

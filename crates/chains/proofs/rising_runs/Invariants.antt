@@ -1,10 +1,7 @@
 use mathlib.Core.Path.{◌≡◌}
-use Prim.Native.Nat.{ℕ, ◌+◌, ◌-◌, ◌≤◌, ◌<◌}
-use native.Mathlib.Omega.{arith}
-use lib.ListN.{length, get_or, length-set}
-use borrow.Author.Rules.{rules}
+use Prim.Native.Nat.{ℕ, ◌+◌, ◌≤◌, ◌<◌}
+use lib.ListN.{length, get_or}
 use Rattle.chains.specs.Walks.{Rises}
-use Rattle.chains.proofs.Running.{rises_next, places_down}
 use Rattle.chains.proofs.rising_runs.Given as goal
 
 abbrev pub invariant-loop-q : goal.invariant-loop-q

@@ -1,10 +1,9 @@
 -- `table` meets its contract.
-use Prim.Native.Nat.{◌-◌, ◌≤◌}
 use native.Mathlib.Omega.{arith}
 use borrow.Author.Rules.{rules}
 use Rattle.layout.specs.Plans.{layout_of}
 use Rattle.questions.proofs.Bounds.{reduced_of_shaped}
-use Rattle.chains.proofs.Counting.{next_below, Partly, partly_start, partly_more, partly_end}
+use Rattle.chains.proofs.Counting.{next_below, partly_start, partly_more, partly_end}
 use Rattle.chains.proofs.table.Goals as goal
 
 pub loop-q-init : goal.loop-q-init

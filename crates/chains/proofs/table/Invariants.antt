@@ -1,9 +1,5 @@
 use Prim.Native.Nat.{◌-◌, ◌≤◌}
-use native.Mathlib.Omega.{arith}
-use borrow.Author.Rules.{rules}
-use Rattle.layout.specs.Plans.{layout_of}
-use Rattle.questions.proofs.Bounds.{reduced_of_shaped}
-use Rattle.chains.proofs.Counting.{next_below, Partly, partly_start, partly_more, partly_end}
+use Rattle.chains.proofs.Counting.{Partly}
 use Rattle.chains.proofs.table.Given as goal
 
 abbrev pub invariant-loop-q : goal.invariant-loop-q

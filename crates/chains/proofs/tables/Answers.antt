@@ -1,10 +1,8 @@
 -- `tables` meets its contract.
 use mathlib.Core.Path.{◌≡◌, ap, ◌∙◌}
-use Prim.Native.Nat.{ℕ, ◌+◌, ◌-◌, ◌≤◌}
+use Prim.Native.Nat.{ℕ, ◌+◌}
 use native.Mathlib.Omega.{arith}
 use lib.ListN.{length, length-replicate}
-use borrow.Author.Rules.{rules}
-use Rattle.chains.specs.Walks.{Grouped}
 use Rattle.chains.proofs.Counting.{grouped-first, collected_end}
 use Rattle.chains.proofs.tables.Goals as goal
 

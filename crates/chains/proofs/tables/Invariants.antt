@@ -1,10 +1,5 @@
-use mathlib.Core.Path.{◌≡◌, ap, ◌∙◌}
-use Prim.Native.Nat.{ℕ, ◌+◌, ◌-◌, ◌≤◌}
-use native.Mathlib.Omega.{arith}
-use lib.ListN.{length, length-replicate}
-use borrow.Author.Rules.{rules}
+use Prim.Native.Nat.{◌-◌, ◌≤◌}
 use Rattle.chains.specs.Walks.{Grouped}
-use Rattle.chains.proofs.Counting.{grouped-first, collected_end}
 use Rattle.chains.proofs.tables.Given as goal
 
 abbrev pub invariant-loop-k : goal.invariant-loop-k

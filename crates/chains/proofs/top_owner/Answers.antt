@@ -1,7 +1,7 @@
 -- `top_owner` meets its contract: the highest tile has the highest coordinate along each dimension.
 use mathlib.Core.Path.{◌≡◌, refl, sym, ap, ◌∙◌}
 use mathlib.Core.List.{List}
-use Prim.Native.Nat.{ℕ, ◌+◌, ◌-◌, ◌<◌, ◌≤◌}
+use Prim.Native.Nat.{ℕ, ◌-◌, ◌<◌}
 use native.Mathlib.Omega.{arith}
 use lib.ListN.{length, get_or, take, length-set}
 use lib.Seq.{length-take-le, get_or-take, ext_get_or}

@@ -1,24 +1,8 @@
-use mathlib.Core.Path.{◌≡◌, refl, sym, ap, ◌∙◌}
+use mathlib.Core.Path.{◌≡◌}
 use mathlib.Core.List.{List}
-use Prim.Native.Nat.{ℕ, ◌+◌, ◌-◌, ◌<◌, ◌≤◌}
-use native.Mathlib.Omega.{arith}
-use lib.ListN.{length, get_or, take, length-set}
-use lib.Seq.{length-take-le, get_or-take, ext_get_or}
-use borrow.Author.Rules.{rules}
-use Rattle.multipartition.specs.Owners.{owner_at}
-use Rattle.multipartition.specs.Plans.{tiles_of}
-use Rattle.multipartition.specs.Tiles.{position_of}
-use Rattle.multipartition.specs.Questions.{tile_owner}
-use Rattle.multipartition.proofs.MixedRadix.{Positive, positive_of_places}
-use Rattle.multipartition.proofs.Tiles.{length_position, top_position}
-use Rattle.multipartition.proofs.Plans.{in_shape_owner_below}
+use Prim.Native.Nat.{ℕ, ◌-◌, ◌<◌, ◌≤◌}
+use lib.ListN.{length, get_or}
 use Rattle.layout.specs.declared.Plan.{Plan}
-use Rattle.layout.specs.Plans.{layout_of}
-use Rattle.layout.specs.Shaped.{Shaped}
-use Rattle.layout.proofs.Places.{cuts_length, cut_at}
-use Rattle.layout.proofs.Shaped.{in_shape_of_shaped}
-use Rattle.questions.proofs.Bounds.{reduced_of_shaped}
-use Rattle.chains.proofs.Filling.{places_more}
 use Rattle.chains.proofs.top_owner.Given as goal
 
 -- k coordinates are there

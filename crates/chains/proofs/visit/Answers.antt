@@ -1,7 +1,6 @@
 -- `visit` meets its contract.
 use mathlib.Core.Path.{sym}
 use lib.ListN.{length-set}
-use borrow.Author.Rules.{rules}
 use Rattle.multipartition.proofs.Stages.{stage-step}
 use Rattle.chains.proofs.visit.Goals as goal
 

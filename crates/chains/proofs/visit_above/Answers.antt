@@ -1,18 +1,14 @@
 -- `visit_above` meets its contract: the grid is one block.
 use mathlib.Core.Path.{◌≡◌, refl, sym, ap, ◌∙◌, subst⁻¹}
 use mathlib.Core.List.{List}
-use Prim.Native.Nat.{ℕ, suc, ◌-◌, ◌*◌, ◌<◌, ◌≤◌, max}
+use Prim.Native.Nat.{ℕ, ◌-◌, ◌≤◌, max}
 use native.Mathlib.Omega.{arith}
-use lib.ListN.{length, get_or}
-use borrow.Author.Rules.{rules}
+use lib.ListN.{length}
 use Rattle.multipartition.specs.Chains.{Stage}
 use Rattle.multipartition.specs.Plans.{tiles_of}
 use Rattle.multipartition.specs.Questions.{tile_owner}
 use Rattle.multipartition.proofs.Stages.{heads-length, nexts-length}
 use Rattle.layout.specs.Plans.{layout_of}
-use Rattle.layout.specs.declared.Plan.{Plan}
-use Rattle.layout.specs.Shaped.{Shaped}
-use Rattle.chains.specs.Stages.{Visited}
 use Rattle.chains.specs.Walks.{block_size, Tables, Leaps, Led, Walks}
 use Rattle.chains.proofs.visit_above.Goals as goal
 

@@ -1,13 +1,8 @@
-use borrow.Author.Rules.{rules}
-use mathlib.Core.Path.{◌≡◌, refl, sym, ap, ap₂, ◌∙◌}
-use Prim.Native.Nat.{ℕ, ◌+◌, ◌-◌, ◌*◌, ◌^◌, ◌≤◌}
-use native.Mathlib.Omega.{arith}
-use mathlib.Core.List.{List}
+use mathlib.Core.Path.{◌≡◌}
+use Prim.Native.Nat.{◌-◌, ◌*◌, ◌^◌, ◌≤◌}
 use lib.ListN.{length, take}
-use lib.Seq.{take-length}
 use Rattle.multipartition.specs.Cuts.{cost_of}
 use Rattle.diagonal.specs.Diagonal.{diagonal_cuts}
-use Rattle.diagonal.proofs.Places.{cost-add-one}
 use Rattle.diagonal.proofs.cost_of.Given as goal
 
 abbrev pub invariant-loop-k : goal.invariant-loop-k

@@ -3,7 +3,6 @@ use mathlib.Core.Path.{refl}
 use native.Mathlib.Nat.{le_of_lt}
 use native.Mathlib.Omega.{arith}
 use Prim.Native.Nat.{◌^◌}
-use borrow.Author.Rules.{rules}
 use Rattle.multipartition.specs.Cuts.{cut_cost}
 use Rattle.multipartition.proofs.Order.{cut_cost-le}
 use Rattle.diagonal.proofs.cut_cost.Goals as goal

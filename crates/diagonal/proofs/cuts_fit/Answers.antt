@@ -3,7 +3,6 @@ use mathlib.Core.Path.{ap, ◌∙◌}
 use lib.ListN.{length}
 use Rattle.planner.proofs.Given.{none_given, some_given}
 use Rattle.diagonal.specs.Diagonal.{side_fits}
-use borrow.Author.Rules.{rules}
 use Rattle.diagonal.proofs.cuts_fit.Goals as goal
 
 pub returns-then-given-eq0 : goal.returns-then-given-eq0

@@ -1,6 +1,4 @@
 -- `diagonal_job` meets its contract: each line of the table that turns the job down, and the plan.
-use borrow.Author.Rules.{rules}
-use borrow.Author.Tests.{not-true, not-false}
 use mathlib.Core.Bool.{Bool, true, false, not, ◌&&◌, ◌||◌}
 use mathlib.Core.List.{List}
 use mathlib.Core.Path.{◌≡◌, sym, ap, ap₂, ◌∙◌, subst, subst⁻¹}
@@ -11,7 +9,7 @@ use native.Mathlib.Omega.{arith}
 use lib.ListN.{length}
 use Rattle.multipartition.specs.Answers.{refused as refusal}
 use Rattle.multipartition.specs.Plans.{Job, least_of, job_with}
-use Rattle.multipartition.specs.Jobs.{first_outside, first_zero, lengths_check}
+use Rattle.multipartition.specs.Jobs.{lengths_check}
 use Rattle.multipartition.proofs.Jobs.{lengths_of_check}
 use Rattle.multipartition.proofs.Tests.{in-range_of_test}
 use Rattle.layout.specs.Plans.{plan_of}

@@ -1,6 +1,5 @@
 -- `root_by_eights` meets its contract.
-use borrow.Author.Rules.{rules}
-use Prim.Native.Nat.{◌+◌, ◌-◌, ◌*◌, ◌≤◌}
+use Prim.Native.Nat.{◌+◌}
 use native.Mathlib.Omega.{arith}
 use Rattle.diagonal.proofs.Sides.{root_high, square_fits}
 use Rattle.diagonal.proofs.root_by_eights.Goals as goal

@@ -1,7 +1,4 @@
-use borrow.Author.Rules.{rules}
-use Prim.Native.Nat.{◌+◌, ◌-◌, ◌*◌, ◌≤◌}
-use native.Mathlib.Omega.{arith}
-use Rattle.diagonal.proofs.Sides.{root_high, square_fits}
+use Prim.Native.Nat.{◌-◌, ◌*◌, ◌≤◌}
 use Rattle.diagonal.proofs.root_by_eights.Given as goal
 
 abbrev pub invariant-loop-s : goal.invariant-loop-s

@@ -1,12 +1,8 @@
 -- `side_fits` meets its contract.
-use borrow.Author.Rules.{rules}
 use mathlib.Core.Path.{◌≡◌, refl, sym}
-use Prim.Native.Nat.{◌*◌, ◌≤◌, ◌-◌}
 use native.Mathlib.Omega.{arith}
-use lib.Dec.{leb}
-use lib.ListN.{length, get_or}
+use lib.ListN.{length}
 use Rattle.layout.proofs.Lists.{all_none, all-add-one}
-use Rattle.multipartition.specs.Lists.{all_below}
 use Rattle.diagonal.specs.Diagonal.{side_fits}
 use Rattle.diagonal.proofs.side_fits.Goals as goal
 

@@ -1,13 +1,10 @@
 -- `side_within` meets its contract.
-use borrow.Author.Rules.{rules}
 use mathlib.Core.Path.{◌≡◌, refl, sym, ap, ◌∙◌}
-use Prim.Native.Nat.{ℕ, ◌*◌, ◌≤◌, ◌-◌}
+use Prim.Native.Nat.{ℕ, ◌*◌}
 use native.Mathlib.Nat.{mul-one}
 use native.Mathlib.Omega.{arith}
-use lib.Dec.{leb}
 use lib.ListN.{length, get_or, replicate, get_or-replicate}
 use Rattle.layout.proofs.Lists.{all_none, all-add-one}
-use Rattle.multipartition.specs.Lists.{all_below}
 use Rattle.diagonal.specs.Diagonal.{side_fits}
 use Rattle.diagonal.proofs.side_within.Goals as goal
 

@@ -1,13 +1,8 @@
-use borrow.Author.Rules.{rules}
-use mathlib.Core.Path.{◌≡◌, refl, sym, ap, ◌∙◌}
-use Prim.Native.Nat.{ℕ, ◌*◌, ◌≤◌, ◌-◌}
-use native.Mathlib.Nat.{mul-one}
-use native.Mathlib.Omega.{arith}
+use mathlib.Core.Path.{◌≡◌}
+use Prim.Native.Nat.{◌*◌, ◌≤◌, ◌-◌}
 use lib.Dec.{leb}
-use lib.ListN.{length, get_or, replicate, get_or-replicate}
-use Rattle.layout.proofs.Lists.{all_none, all-add-one}
+use lib.ListN.{length, get_or, replicate}
 use Rattle.multipartition.specs.Lists.{all_below}
-use Rattle.diagonal.specs.Diagonal.{side_fits}
 use Rattle.diagonal.proofs.side_within.Given as goal
 
 abbrev pub invariant-loop-k : goal.invariant-loop-k

@@ -1,6 +1,5 @@
 -- `square_side` meets its contract: the square of s is at most p, until that of the next number is above it.
-use borrow.Author.Rules.{rules}
-use Prim.Native.Nat.{◌+◌, ◌-◌, ◌*◌, ◌≤◌}
+use Prim.Native.Nat.{◌+◌}
 use native.Mathlib.Omega.{arith}
 use Rattle.diagonal.proofs.Sides.{root_high, square_fits, root-found, root_none}
 use Rattle.diagonal.proofs.square_side.Goals as goal

@@ -1,7 +1,4 @@
-use borrow.Author.Rules.{rules}
-use Prim.Native.Nat.{◌+◌, ◌-◌, ◌*◌, ◌≤◌}
-use native.Mathlib.Omega.{arith}
-use Rattle.diagonal.proofs.Sides.{root_high, square_fits, root-found, root_none}
+use Prim.Native.Nat.{◌-◌, ◌*◌, ◌≤◌}
 use Rattle.diagonal.proofs.square_side.Given as goal
 
 abbrev pub invariant-loop-s : goal.invariant-loop-s

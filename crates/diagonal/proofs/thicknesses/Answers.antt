@@ -5,7 +5,6 @@ use lib.ListN.{length}
 use Rattle.layout.specs.Plans.{five}
 use Rattle.planner.proofs.Given.{none_given, some_given}
 use Rattle.diagonal.proofs.Places.{cuts_from-first}
-use borrow.Author.Rules.{rules}
 use Rattle.diagonal.proofs.thicknesses.Goals as goal
 
 pub returns-then-given-eq0 : goal.returns-then-given-eq0

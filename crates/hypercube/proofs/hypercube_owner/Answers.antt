@@ -1,10 +1,8 @@
 -- `hypercube::hypercube_owner` meets its contract. Assumes nothing.
-use borrow.Author.Rules.{rules}
 use mathlib.Core.Bool.{true}
 use mathlib.Core.List.{[], ◌∷◌}
 use mathlib.Core.Path.{◌≡◌, ◌∙◌, sym, ap}
 use native.Mathlib.Omega.{arith}
-use borrow.Author.Tests.{not-true, not-false}
 use Rattle.multipartition.specs.Answers.{answered}
 use Rattle.multipartition.specs.Tiles.{is_inside}
 use Rattle.multipartition.proofs.Tiles.{inside_of_test, inside-length, inside_below}

@@ -1,5 +1,4 @@
 -- `hypercube::is_inside` meets its contract. Assumes nothing.
-use borrow.Author.Rules.{rules}
 use mathlib.Core.Path.{sym, ◌∙◌}
 use borrow.Author.Tests.{eq-eqb, ne_eqb}
 use Rattle.multipartition.specs.Lists.{all_below}

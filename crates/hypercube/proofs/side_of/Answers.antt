@@ -1,9 +1,8 @@
 -- `hypercube::side_of` meets its contract. Assumes nothing.
-use borrow.Author.Rules.{rules}
-use mathlib.Core.Path.{◌≡◌, refl, sym, ap, ◌∙◌}
-use Prim.Native.Nat.{ℕ, ◌-◌, ◌^◌, ◌≤◌}
+use mathlib.Core.Path.{refl, sym, ap, ◌∙◌}
+use Prim.Native.Nat.{ℕ, ◌^◌, ◌≤◌}
 use native.Mathlib.Omega.{arith}
-use Rattle.hypercube.proofs.Exponents.{power-next, powers_high, exponent_iff, From, from_start, from_next, from_end}
+use Rattle.hypercube.proofs.Exponents.{power-next, powers_high, exponent_iff, from_start, from_next, from_end}
 use Rattle.hypercube.proofs.side_of.Goals as goal
 
 pub loop-e-init : goal.loop-e-init

@@ -1,8 +1,6 @@
-use borrow.Author.Rules.{rules}
-use mathlib.Core.Path.{◌≡◌, refl, sym, ap, ◌∙◌}
-use Prim.Native.Nat.{ℕ, ◌-◌, ◌^◌, ◌≤◌}
-use native.Mathlib.Omega.{arith}
-use Rattle.hypercube.proofs.Exponents.{power-next, powers_high, exponent_iff, From, from_start, from_next, from_end}
+use mathlib.Core.Path.{◌≡◌}
+use Prim.Native.Nat.{◌-◌, ◌^◌, ◌≤◌}
+use Rattle.hypercube.proofs.Exponents.{From}
 use Rattle.hypercube.proofs.side_of.Given as goal
 
 abbrev pub invariant-loop-e : goal.invariant-loop-e

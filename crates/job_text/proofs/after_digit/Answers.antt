@@ -1,5 +1,4 @@
 -- `job_text::after_digit` meets its contract: each way is the definition's, by the values of the two tests.
-use borrow.Author.Rules.{rules}
 use borrow.Author.Tests.{eq-eqb, ne_eqb, le-leb, lt-leb}
 use Rattle.job_text.proofs.after_digit.Goals as goal
 

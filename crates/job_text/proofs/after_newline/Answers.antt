@@ -4,7 +4,6 @@ use borrow.Author.Tests.{lt-ltb, le-ltb}
 use Rattle.job_text.proofs.Readings.{count_is}
 use lib.Dec.{ltb}
 use Prim.Native.Nat.{ℕ}
-use borrow.Author.Rules.{rules}
 use Rattle.job_text.proofs.after_newline.Goals as goal
 
 pub returns-then-count-gt0 : goal.returns-then-count-gt0

@@ -4,7 +4,6 @@ use borrow.Author.Tests.{lt-ltb, le-ltb}
 use Rattle.job_text.proofs.Readings.{count_is}
 use lib.Dec.{ltb}
 use Prim.Native.Nat.{ℕ, ◌+◌}
-use borrow.Author.Rules.{rules}
 use Rattle.job_text.proofs.after_space.Goals as goal
 
 pub returns-then-count-lt-MOST : goal.returns-then-count-lt-MOST

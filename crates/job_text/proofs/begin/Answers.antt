@@ -1,7 +1,6 @@
 -- `job_text::begin` meets its contract: each way is the definition's, by the value of its test.
 use mathlib.Core.Path.{sym, ◌∙◌}
 use Rattle.job_text.proofs.Reached.{digit_byte}
-use borrow.Author.Rules.{rules}
 use Rattle.job_text.proofs.begin.Goals as goal
 
 pub overflow_sub-b : goal.overflow_sub-b

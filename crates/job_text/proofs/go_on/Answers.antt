@@ -3,7 +3,6 @@ use mathlib.Core.Path.{sym, ◌∙◌}
 use native.Mathlib.Omega.{arith}
 use borrow.Author.Tests.{eq-eqb, ne_eqb}
 use Rattle.job_text.proofs.Reached.{digit_byte}
-use borrow.Author.Rules.{rules}
 use Rattle.job_text.proofs.go_on.Goals as goal
 
 pub overflow_sub-b : goal.overflow_sub-b

@@ -1,13 +1,12 @@
 use mathlib.Core.Path.{◌≡◌, sym, ap, ◌∙◌}
 use mathlib.Core.Bool.{false}
-use Prim.Native.Nat.{◌≤◌, ◌-◌, ◌+◌}
+use Prim.Native.Nat.{◌+◌}
 use native.Mathlib.Omega.{arith}
-use lib.ListN.{length, drop, get_or}
+use lib.ListN.{drop, get_or}
 use Rattle.job_text.specs.declared.Stage.{Stage}
 use Rattle.job_text.specs.Machine.{State, astray, step, at_end, read_from, read_line, is_astray}
-use Rattle.job_text.specs.Readings.{state_at, numbers_of, Sound, state_of}
+use Rattle.job_text.specs.Readings.{state_at, numbers_of, state_of}
 use Rattle.job_text.proofs.Readings.{astray_byte, next_byte, no_byte, not_astray, unfinished, reads_unreadable, reads_numbers}
-use borrow.Author.Rules.{rules}
 use Rattle.job_text.proofs.read_job.Goals as goal
 
 pub loop-i-init : goal.loop-i-init

@@ -1,7 +1,6 @@
 -- `job_text::take_byte` meets its contract: each arm is the definition's, at the stage that the arm says.
 use Rattle.job_text.proofs.Readings.{few-at}
 use native.Mathlib.Omega.{arith}
-use borrow.Author.Rules.{rules}
 use Rattle.job_text.proofs.take_byte.Goals as goal
 
 pub begin-requires : goal.begin-requires

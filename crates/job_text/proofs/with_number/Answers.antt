@@ -1,6 +1,5 @@
 -- `job_text::with_number` meets its contract, by the law of a stored number.
 use Rattle.job_text.proofs.Readings.{holds_number}
-use borrow.Author.Rules.{rules}
 use Rattle.job_text.proofs.with_number.Goals as goal
 
 pub returns : goal.returns

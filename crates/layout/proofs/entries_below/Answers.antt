@@ -1,12 +1,7 @@
 -- `layout::entries_below` meets its contract. Assumes nothing.
-use borrow.Author.Rules.{rules}
 use mathlib.Core.Path.{◌≡◌, sym}
-use Prim.Native.Nat.{◌≤◌, ◌-◌}
 use native.Mathlib.Omega.{arith}
-use lib.Dec.{ltb}
-use Rattle.layout.specs.Shaped.{entry_of}
 use Rattle.layout.proofs.Lists.{all_none, all-add-one}
-use Rattle.multipartition.specs.Lists.{all_below}
 use Rattle.layout.proofs.entries_below.Goals as goal
 
 pub loop-j-init : goal.loop-j-init

@@ -1,6 +1,4 @@
 -- `layout::place_ok` meets its contract. Assumes nothing.
-use borrow.Author.Rules.{rules}
-use Prim.Native.Nat.{◌-◌}
 use Rattle.layout.proofs.place_ok.Goals as goal
 
 pub returns : goal.returns

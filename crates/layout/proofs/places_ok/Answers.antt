@@ -1,11 +1,9 @@
 -- `layout::places_ok` meets its contract. Assumes nothing.
 use mathlib.Core.Path.{ap}
 use mathlib.Core.Bool.{not}
-use borrow.Author.Rules.{rules}
-use Prim.Native.Nat.{◌≤◌, ◌-◌}
 use native.Mathlib.Omega.{arith}
 use Rattle.layout.specs.Lent.{lent_plan}
-use Rattle.layout.proofs.Shaped.{Passed, passed_none, passed-next, tiles_fit, processors_fit, passed_all, failed_check, place_of_shaped}
+use Rattle.layout.proofs.Shaped.{passed_none, passed-next, tiles_fit, processors_fit, passed_all, failed_check, place_of_shaped}
 use Rattle.layout.proofs.places_ok.Goals as goal
 
 pub loop-k-init : goal.loop-k-init

@@ -1,8 +1,5 @@
-use borrow.Author.Rules.{rules}
 use Prim.Native.Nat.{◌≤◌, ◌-◌}
-use native.Mathlib.Omega.{arith}
-use Rattle.layout.specs.Lent.{lent_plan}
-use Rattle.layout.proofs.Shaped.{Passed, passed_none, passed-next, tiles_fit, processors_fit, passed_all, failed_check, place_of_shaped}
+use Rattle.layout.proofs.Shaped.{Passed}
 use Rattle.layout.proofs.places_ok.Given as goal
 
 abbrev pub invariant-loop-k : goal.invariant-loop-k

@@ -1,11 +1,7 @@
 -- `layout::product_of` meets its contract. Assumes nothing.
-use borrow.Author.Rules.{rules}
 use mathlib.Core.Path.{◌≡◌, refl, sym}
-use Prim.Native.Nat.{◌≤◌, ◌-◌}
 use native.Mathlib.Omega.{arith}
-use lib.ListN.{take}
 use Rattle.layout.proofs.Lists.{product-next, product_fits}
-use Rattle.numbers.specs.Products.{product}
 use Rattle.layout.proofs.product_of.Goals as goal
 
 pub loop-k-init : goal.loop-k-init

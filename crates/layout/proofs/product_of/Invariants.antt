@@ -1,9 +1,6 @@
-use borrow.Author.Rules.{rules}
-use mathlib.Core.Path.{◌≡◌, refl, sym}
+use mathlib.Core.Path.{◌≡◌}
 use Prim.Native.Nat.{◌≤◌, ◌-◌}
-use native.Mathlib.Omega.{arith}
 use lib.ListN.{take}
-use Rattle.layout.proofs.Lists.{product-next, product_fits}
 use Rattle.numbers.specs.Products.{product}
 use Rattle.layout.proofs.product_of.Given as goal
 

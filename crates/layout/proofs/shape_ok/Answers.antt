@@ -1,9 +1,7 @@
 -- `layout::shape_ok` meets its contract. Assumes nothing.
 use borrow.Author.Rules.{rules}
 use mathlib.Core.Path.{◌≡◌, sym, ◌∙◌}
-use Prim.Native.Nat.{◌-◌}
 use native.Mathlib.Omega.{arith}
-use borrow.Author.Tests.{not-true, not-false}
 use Rattle.layout.specs.Lent.{Lent, lent_plan, plan_over}
 use Rattle.layout.proofs.Lent.{lent_of_test, plan_over_lem, not_lent}
 use Rattle.layout.proofs.Shaped.{not-in_shape}

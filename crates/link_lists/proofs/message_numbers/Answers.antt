@@ -1,5 +1,4 @@
 -- `link_lists::message_numbers` meets its contract. Assumes nothing.
-use borrow.Author.Rules.{rules}
 use mathlib.Core.Path.{sym, ap}
 use Rattle.timetable.specs.declared.Message.{Message}
 use Rattle.timetable.specs.Told.{told_message}

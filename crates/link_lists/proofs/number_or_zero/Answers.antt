@@ -1,5 +1,4 @@
 -- `link_lists::number_or_zero` meets its contract. Assumes nothing.
-use borrow.Author.Rules.{rules}
 use mathlib.Core.Path.{sym}
 use lib.ListN.{get_or-eq_default}
 use Rattle.link_lists.proofs.number_or_zero.Goals as goal

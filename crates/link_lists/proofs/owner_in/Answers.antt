@@ -1,5 +1,4 @@
 -- `link_lists::owner_in` meets its contract. Assumes nothing.
-use borrow.Author.Rules.{rules}
 use mathlib.Core.Path.{◌∙◌}
 use native.Mathlib.Omega.{arith}
 use Rattle.link_lists.proofs.Plans.{owner_over_list}

@@ -1,5 +1,4 @@
 -- `link_lists::plan_in` meets its contract. Assumes nothing.
-use borrow.Author.Rules.{rules}
 use native.Mathlib.Omega.{arith}
 use Rattle.link_lists.specs.Lists.{plan_in}
 use Rattle.link_lists.proofs.plan_in.Goals as goal

@@ -1,5 +1,4 @@
 -- `link_lists::position_in` meets its contract. Assumes nothing.
-use borrow.Author.Rules.{rules}
 use Rattle.tiles.proofs.Coordinates.{five_numbers}
 use Rattle.link_lists.proofs.position_in.Goals as goal
 

@@ -1,5 +1,4 @@
 -- `link_lists::put_five` meets its contract. Assumes nothing.
-use borrow.Author.Rules.{rules}
 use Rattle.link_lists.proofs.put_five.Goals as goal
 
 pub returns : goal.returns

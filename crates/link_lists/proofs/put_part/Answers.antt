@@ -1,10 +1,9 @@
-use borrow.Author.Rules.{rules}
 use mathlib.Core.Path.{◌≡◌, refl, sym, ap, ◌∙◌}
-use Prim.Native.Nat.{ℕ, ◌-◌, ◌≤◌}
+use Prim.Native.Nat.{ℕ}
 use native.Mathlib.Numerals.{add-one}
 use native.Mathlib.Omega.{arith}
 use lib.ListN.{length, length-set}
-use lib.Seq.{paste, paste-zero, paste-suc, length-paste, sets-eq, take-length}
+use lib.Seq.{paste, paste-zero, paste-suc, sets-eq, take-length}
 use Rattle.link_lists.proofs.put_part.Goals as goal
 
 pub loop-i-init : goal.loop-i-init

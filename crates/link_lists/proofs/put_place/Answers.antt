@@ -1,7 +1,6 @@
 -- `link_lists::put_place` meets its contract. A place past the end is no place of the list, and `set` leaves it.
 use mathlib.Core.Path.{sym}
 use lib.Seq.{set_out}
-use borrow.Author.Rules.{rules}
 use Rattle.link_lists.proofs.put_place.Goals as goal
 
 pub returns-else-k-list : goal.returns-else-k-list

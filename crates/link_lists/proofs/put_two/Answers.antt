@@ -1,5 +1,4 @@
 -- `link_lists::put_two` meets its contract. Assumes nothing.
-use borrow.Author.Rules.{rules}
 use mathlib.Core.List.{[], ◌∷◌}
 use mathlib.Core.Path.{refl}
 use Rattle.link_lists.proofs.Answers.{linked-into, linked-length}

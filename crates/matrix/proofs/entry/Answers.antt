@@ -1,9 +1,6 @@
-use mathlib.Core.List.{List}
-use Prim.Native.Nat.{ℕ, ◌-◌, ◌≤◌}
+use Prim.Native.Nat.{◌-◌}
 use native.Mathlib.Omega.{arith}
-use borrow.Author.Rules.{rules}
-use Rattle.matrix.specs.Rows.{Multipliers, Before}
-use Rattle.matrix.proofs.Taking.{Taking, taking_none, taking_more, taking_all}
+use Rattle.matrix.proofs.Taking.{taking_none, taking_more, taking_all}
 use Rattle.matrix.proofs.entry.Goals as goal
 
 pub loop-j-init : goal.loop-j-init

@@ -1,10 +1,8 @@
 -- `entry` meets its contract. The loop's invariant: the rows from j - 1 down to 1 are still to be taken.
 use mathlib.Core.List.{List}
-use Prim.Native.Nat.{ℕ, ◌-◌, ◌≤◌}
-use native.Mathlib.Omega.{arith}
-use borrow.Author.Rules.{rules}
+use Prim.Native.Nat.{ℕ, ◌≤◌}
 use Rattle.matrix.specs.Rows.{Multipliers, Before}
-use Rattle.matrix.proofs.Taking.{Taking, taking_none, taking_more, taking_all}
+use Rattle.matrix.proofs.Taking.{Taking}
 use Rattle.matrix.proofs.entry.Given as goal
 
 abbrev pub invariant-loop-j : goal.invariant-loop-j

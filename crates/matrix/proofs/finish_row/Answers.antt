@@ -1,8 +1,6 @@
 use mathlib.Core.Path.{◌≡◌}
-use Prim.Native.Nat.{◌+◌, ◌-◌, ◌*◌, ◌≤◌}
+use Prim.Native.Nat.{◌+◌, ◌*◌}
 use native.Mathlib.Omega.{arith}
-use borrow.Author.Rules.{rules}
-use Rattle.matrix.specs.Rows.{Finished}
 use Rattle.matrix.proofs.Multiplying.{moderate}
 use Rattle.matrix.proofs.Finished.{before_column, finished_more}
 use Rattle.matrix.proofs.finish_row.Goals as goal

@@ -1,11 +1,6 @@
 -- `finish_row` meets its contract. The loop's invariant: the rows before row i and its first c columns hold numbers that stand for the finished rows.
-use mathlib.Core.Path.{◌≡◌}
 use Prim.Native.Nat.{◌+◌, ◌-◌, ◌*◌, ◌≤◌}
-use native.Mathlib.Omega.{arith}
-use borrow.Author.Rules.{rules}
 use Rattle.matrix.specs.Rows.{Finished}
-use Rattle.matrix.proofs.Multiplying.{moderate}
-use Rattle.matrix.proofs.Finished.{before_column, finished_more}
 use Rattle.matrix.proofs.finish_row.Given as goal
 
 abbrev pub invariant-loop-c : goal.invariant-loop-c

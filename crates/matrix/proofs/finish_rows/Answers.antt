@@ -1,8 +1,6 @@
 use mathlib.Core.Path.{◌≡◌}
-use Prim.Native.Nat.{◌+◌, ◌-◌, ◌*◌, ◌≤◌}
+use Prim.Native.Nat.{◌+◌, ◌*◌}
 use native.Mathlib.Omega.{arith}
-use borrow.Author.Rules.{rules}
-use Rattle.matrix.specs.Rows.{Finished}
 use Rattle.matrix.proofs.Finished.{finished_none}
 use Rattle.matrix.proofs.finish_rows.Goals as goal
 

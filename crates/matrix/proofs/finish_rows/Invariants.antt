@@ -1,10 +1,6 @@
 -- `finish_rows` meets its contract. The loop's invariant: the first i rows hold numbers that stand for the finished rows.
-use mathlib.Core.Path.{◌≡◌}
-use Prim.Native.Nat.{◌+◌, ◌-◌, ◌*◌, ◌≤◌}
-use native.Mathlib.Omega.{arith}
-use borrow.Author.Rules.{rules}
+use Prim.Native.Nat.{◌-◌, ◌*◌, ◌≤◌}
 use Rattle.matrix.specs.Rows.{Finished}
-use Rattle.matrix.proofs.Finished.{finished_none}
 use Rattle.matrix.proofs.finish_rows.Given as goal
 
 abbrev pub invariant-loop-i : goal.invariant-loop-i

@@ -1,10 +1,7 @@
-use mathlib.Core.Path.{◌≡◌, ◌∙◌}
-use Prim.Native.Nat.{ℕ, ◌-◌, ◌≤◌, ◌<◌}
+use mathlib.Core.Path.{◌∙◌}
 use native.Mathlib.Nat.{pos_of_dvd_of_pos}
 use native.Mathlib.Omega.{arith}
-use borrow.Author.Rules.{rules}
-use lib.ListN.{length, length-set}
-use Rattle.matrix.specs.Rows.{at, reduced_at}
+use lib.ListN.{length-set}
 use Rattle.matrix.proofs.Padding.{filled_more, is-flat}
 use Rattle.matrix.proofs.Finished.{dividing, reduced_entry}
 use Rattle.matrix.proofs.matrix_of.Goals as goal

@@ -1,13 +1,8 @@
 -- `matrix_of` meets its contract. The loop's invariant: the first n places hold the remainders.
-use mathlib.Core.Path.{◌≡◌, ◌∙◌}
+use mathlib.Core.Path.{◌≡◌}
 use Prim.Native.Nat.{ℕ, ◌-◌, ◌≤◌, ◌<◌}
-use native.Mathlib.Nat.{pos_of_dvd_of_pos}
-use native.Mathlib.Omega.{arith}
-use borrow.Author.Rules.{rules}
-use lib.ListN.{length, length-set}
+use lib.ListN.{length}
 use Rattle.matrix.specs.Rows.{at, reduced_at}
-use Rattle.matrix.proofs.Padding.{filled_more, is-flat}
-use Rattle.matrix.proofs.Finished.{dividing, reduced_entry}
 use Rattle.matrix.proofs.matrix_of.Given as goal
 
 abbrev pub invariant-loop-n : goal.invariant-loop-n

@@ -1,11 +1,9 @@
 use mathlib.Core.Path.{◌≡◌, sym, ap, ◌∙◌}
-use Prim.Native.Nat.{ℕ, ◌-◌, ◌≤◌}
+use Prim.Native.Nat.{ℕ, ◌-◌}
 use native.Mathlib.Omega.{arith}
-use borrow.Author.Rules.{rules}
-use lib.ListN.{take}
 use lib.Seq.{length-take-le, get_or-take}
 use Rattle.numbers.specs.Gcd.{gcd}
-use Rattle.matrix.proofs.Moduli.{Written, written_none, written_more, written_pos, written_all}
+use Rattle.matrix.proofs.Moduli.{written_none, written_more, written_pos, written_all}
 use Rattle.matrix.proofs.moduli_of.Goals as goal
 
 pub loop-i-init : goal.loop-i-init

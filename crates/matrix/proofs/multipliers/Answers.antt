@@ -2,9 +2,8 @@ use mathlib.Core.Path.{ap}
 use Prim.Native.Nat.{ℕ, ◌-◌, ◌/◌}
 use native.Mathlib.Nat.{mul-le-mul}
 use native.Mathlib.Omega.{arith}
-use borrow.Author.Rules.{rules}
 use Rattle.numbers.proofs.Gcd.{gcd_pos}
-use Rattle.matrix.proofs.Multiplying.{Multiplied, multiplied_none, multiplied_more, multiplier_small}
+use Rattle.matrix.proofs.Multiplying.{multiplied_none, multiplied_more, multiplier_small}
 use Rattle.matrix.proofs.multipliers.Goals as goal
 
 pub loop-j-init : goal.loop-j-init

@@ -1,11 +1,5 @@
 -- `multipliers` meets its contract. The loop's invariant: r is what it is before row j - 1 is taken, and the multipliers from place j on are written.
-use mathlib.Core.Path.{ap}
-use Prim.Native.Nat.{ℕ, ◌-◌, ◌/◌}
-use native.Mathlib.Nat.{mul-le-mul}
-use native.Mathlib.Omega.{arith}
-use borrow.Author.Rules.{rules}
-use Rattle.numbers.proofs.Gcd.{gcd_pos}
-use Rattle.matrix.proofs.Multiplying.{Multiplied, multiplied_none, multiplied_more, multiplier_small}
+use Rattle.matrix.proofs.Multiplying.{Multiplied}
 use Rattle.matrix.proofs.multipliers.Given as goal
 
 abbrev pub invariant-loop-j : goal.invariant-loop-j

@@ -3,7 +3,6 @@ use mathlib.Core.Path.{sym}
 use Prim.Native.Nat.{◌/◌}
 use native.Mathlib.Omega.{arith}
 use Rattle.matrix.proofs.Finished.{reduced_past_row, reduced_past_column, reduced_inside}
-use borrow.Author.Rules.{rules}
 use Rattle.matrix.proofs.reduced.Goals as goal
 
 pub returns-then-d-i : goal.returns-then-d-i

@@ -1,6 +1,5 @@
 -- `numerals::put_byte` meets its contract: a byte with no place changes nothing.
 use Rattle.numerals.proofs.Output.{written_outside}
-use borrow.Author.Rules.{rules}
 use Rattle.numerals.proofs.put_byte.Goals as goal
 
 pub returns : goal.returns

@@ -1,6 +1,5 @@
 -- `plan_text::hand_over` meets its contract, by the room in the list.
 use native.Mathlib.Omega.{arith}
-use borrow.Author.Rules.{rules}
 use Rattle.plan_text.proofs.Handing.{text_too_long, hands_refused, hands_text}
 use Rattle.plan_text.proofs.hand_over.Goals as goal
 

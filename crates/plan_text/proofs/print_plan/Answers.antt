@@ -6,7 +6,6 @@ use native.Mathlib.Omega.{arith}
 use lib.ListN.{length}
 use lib.Seq.{length-take-le}
 use borrow.Author.Tests.{not-true, not-false}
-use borrow.Author.Rules.{rules}
 use Rattle.numerals.proofs.Output.{length_written}
 use Rattle.layout.specs.Plans.{layout_of}
 use Rattle.layout.proofs.Shaped.{shaped}

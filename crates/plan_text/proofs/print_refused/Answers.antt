@@ -3,7 +3,6 @@ use mathlib.Core.Path.{sym}
 use native.Mathlib.Omega.{arith}
 use lib.ListN.{length}
 use lib.Seq.{length-take-le}
-use borrow.Author.Rules.{rules}
 use Rattle.numerals.proofs.Output.{length_written}
 use Rattle.plan_text.proofs.Lengths.{length-refused_text}
 use Rattle.plan_text.proofs.Handing.{hands_made}

@@ -1,5 +1,4 @@
 -- `plan_text::put_cost` meets its contract: the word, the number and the newline.
-use borrow.Author.Rules.{rules}
 use Rattle.numerals.proofs.Output.{written_both}
 use Rattle.plan_text.proofs.put_cost.Goals as goal
 

@@ -1,5 +1,4 @@
 -- `plan_text::put_line` meets its contract: one text after the other.
-use borrow.Author.Rules.{rules}
 use Rattle.numerals.proofs.Output.{written_both}
 use Rattle.plan_text.proofs.put_line.Goals as goal
 

@@ -1,21 +1,13 @@
 -- `plan_text::put_neighbours` meets its contract. The invariant: the line's first q numbers are written.
-use mathlib.Core.Path.{◌≡◌, sym, ap, ◌∙◌}
 use mathlib.Core.Bool.{true}
-use mathlib.Core.List.{[], ◌∷◌, ◌++◌}
-use mathlib.Core.Logic.{⊎_elim}
-use Prim.Native.Nat.{ℕ, ◌+◌, ◌≤◌, ◌<◌, ◌-◌}
-use native.Mathlib.Omega.{arith}
+use Prim.Native.Nat.{ℕ, ◌≤◌, ◌-◌}
 use lib.ListN.{take}
-use borrow.Author.Rules.{rules}
-use Rattle.numerals.specs.Decimal.{decimal}
 use Rattle.numerals.specs.Output.{Written}
 use Rattle.numerals.proofs.Lines.{line_front}
-use Rattle.numerals.proofs.Output.{written_nothing, written_both, written_as, length_written}
 use Rattle.multipartition.specs.Lists.{list_of}
 use Rattle.multipartition.specs.Neighbours.{next_owner}
 use Rattle.layout.specs.declared.Plan.{Plan}
 use Rattle.layout.specs.Plans.{rows_from}
-use Rattle.plan_text.proofs.Lines.{front_space, front_newline, front_whole}
 use Rattle.plan_text.proofs.put_neighbours.Given as goal
 
 -- the neighbour of a processor

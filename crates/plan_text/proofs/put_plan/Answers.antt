@@ -1,7 +1,4 @@
 -- `plan_text::put_plan` meets its contract: the lines one after the other.
-use mathlib.Core.Path.{sym}
-use lib.Seq.{length-take-le}
-use borrow.Author.Rules.{rules}
 use Rattle.numerals.proofs.Output.{written_both}
 use Rattle.layout.specs.Plans.{layout_of}
 use Rattle.plan_text.specs.PlanText.{plan_text}

@@ -1,5 +1,4 @@
 -- `plan_text::put_refused` meets its contract: the word, the two numbers and what follows each.
-use borrow.Author.Rules.{rules}
 use Rattle.numerals.proofs.Output.{written_both}
 use Rattle.plan_text.proofs.put_refused.Goals as goal
 

@@ -4,7 +4,6 @@ use mathlib.Core.List.{List, ◌++◌}
 use Prim.Native.Nat.{ℕ, ◌+◌, ◌-◌, ◌*◌}
 use native.Mathlib.Omega.{arith}
 use lib.ListN.{take, drop}
-use borrow.Author.Rules.{rules}
 use Rattle.numerals.specs.Words.{bytes_of}
 use Rattle.numerals.specs.Lines.{line_of}
 use Rattle.numerals.proofs.Output.{written_as}

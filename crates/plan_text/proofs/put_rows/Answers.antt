@@ -1,8 +1,6 @@
 use mathlib.Core.Path.{◌≡◌, sym, ap}
-use Prim.Native.Nat.{◌≤◌, ◌-◌}
 use native.Mathlib.Omega.{arith}
 use borrow.Author.Rules.{rules}
-use Rattle.numerals.specs.Output.{Written}
 use Rattle.numerals.proofs.Output.{written_nothing, written_both, written_as, length_written}
 use Rattle.layout.specs.Plans.{rows_from}
 use Rattle.plan_text.specs.PlanText.{joined, row_line}

@@ -1,13 +1,8 @@
 -- `plan_text::put_rows` meets its contract. The invariant: the first i lines are written.
-use mathlib.Core.Path.{◌≡◌, sym, ap}
 use Prim.Native.Nat.{◌≤◌, ◌-◌}
-use native.Mathlib.Omega.{arith}
-use borrow.Author.Rules.{rules}
 use Rattle.numerals.specs.Output.{Written}
-use Rattle.numerals.proofs.Output.{written_nothing, written_both, written_as, length_written}
 use Rattle.layout.specs.Plans.{rows_from}
 use Rattle.plan_text.specs.PlanText.{joined, row_line}
-use Rattle.plan_text.proofs.Lines.{joined_none, joined-add-one}
 use Rattle.plan_text.proofs.put_rows.Given as goal
 
 abbrev pub invariant-loop-i : goal.invariant-loop-i

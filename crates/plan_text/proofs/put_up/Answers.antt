@@ -1,7 +1,6 @@
 -- `plan_text::put_up` meets its contract: the dimension's number, then `none` or the processors, by the cut.
 use mathlib.Core.Path.{sym, ap, ◌∙◌}
 use native.Mathlib.Numerals.{add-one}
-use borrow.Author.Rules.{rules}
 use Rattle.numerals.specs.Decimal.{decimal}
 use Rattle.numerals.proofs.Output.{written_both, written_as}
 use Rattle.layout.specs.Plans.{layout_of}

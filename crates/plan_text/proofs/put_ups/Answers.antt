@@ -1,8 +1,7 @@
 use mathlib.Core.Path.{◌≡◌, sym, ap}
-use Prim.Native.Nat.{suc, ◌≤◌, ◌-◌}
+use Prim.Native.Nat.{suc}
 use native.Mathlib.Omega.{arith}
 use borrow.Author.Rules.{rules}
-use Rattle.numerals.specs.Output.{Written}
 use Rattle.numerals.proofs.Output.{written_nothing, written_both, written_as, length_written}
 use Rattle.layout.specs.Plans.{layout_of}
 use Rattle.plan_text.specs.PlanText.{joined, up_line}

@@ -9,7 +9,6 @@ use Rattle.multipartition.specs.Plans.{least_of, job_with}
 use Rattle.multipartition.proofs.Fitting.{thick-length, length-most_of}
 use Rattle.planner.proofs.Given.{few_given}
 use Rattle.planner.proofs.Choices.{Cut, cut, no_cut, answered_with, refused-5}
-use borrow.Author.Rules.{rules}
 use Rattle.planner.proofs.answer.Goals as goal
 use Rattle.planner.proofs.answer.Goals.{After-cuts_of-found}
 

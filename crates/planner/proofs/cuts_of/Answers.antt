@@ -10,7 +10,6 @@ use Rattle.multipartition.proofs.Fitting.{length-most_of}
 use Rattle.layout.specs.Plans.{five}
 use Rattle.layout.proofs.Plans.{take-five}
 use Rattle.cuts.specs.Found.{Asked, Chosen}
-use borrow.Author.Rules.{rules}
 use Rattle.planner.proofs.cuts_of.Goals as goal
 
 -- the bounds that the search is given

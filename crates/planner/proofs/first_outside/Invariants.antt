@@ -1,15 +1,10 @@
 -- `first_outside` meets its contract. The loop's invariant: no extent before dimension k + 1 is out of range.
-use mathlib.Core.Path.{◌≡◌, refl, sym, ◌∙◌}
-use Prim.Native.Nat.{suc, ◌+◌, ◌-◌, ◌≤◌}
-use native.Mathlib.Numerals.{add-one}
-use native.Mathlib.Omega.{arith}
-use borrow.Author.Rules.{rules}
-use borrow.Author.Tests.{not-true, not-false}
+use mathlib.Core.Path.{◌≡◌}
+use Prim.Native.Nat.{suc, ◌-◌, ◌≤◌}
 use lib.ListN.{length, drop}
 use Rattle.multipartition.specs.Lists.{first_failing}
 use Rattle.multipartition.specs.Plans.{between}
 use Rattle.multipartition.specs.Jobs.{first_outside}
-use Rattle.multipartition.proofs.Searches.{failing_here, failing_later, failing_none}
 use Rattle.planner.proofs.first_outside.Given as goal
 
 abbrev pub invariant-loop-k : goal.invariant-loop-k

@@ -1,13 +1,9 @@
 use mathlib.Core.Path.{◌≡◌, refl, sym, ◌∙◌}
-use Prim.Native.Nat.{suc, ◌+◌, ◌-◌, ◌≤◌}
+use Prim.Native.Nat.{suc, ◌+◌}
 use native.Mathlib.Numerals.{add-one}
 use native.Mathlib.Omega.{arith}
-use borrow.Author.Rules.{rules}
 use borrow.Author.Tests.{le-leb, lt-leb}
 use lib.Dec.{leb}
-use lib.ListN.{length, drop}
-use Rattle.multipartition.specs.Lists.{first_failing}
-use Rattle.multipartition.specs.Jobs.{first_zero}
 use Rattle.multipartition.proofs.Searches.{failing_here, failing_later, failing_none}
 use Rattle.planner.proofs.first_zero.Goals as goal
 

@@ -1,15 +1,10 @@
 -- `first_zero` meets its contract. The loop's invariant: no least thickness before dimension k + 1 is 0.
-use mathlib.Core.Path.{◌≡◌, refl, sym, ◌∙◌}
-use Prim.Native.Nat.{suc, ◌+◌, ◌-◌, ◌≤◌}
-use native.Mathlib.Numerals.{add-one}
-use native.Mathlib.Omega.{arith}
-use borrow.Author.Rules.{rules}
-use borrow.Author.Tests.{le-leb, lt-leb}
+use mathlib.Core.Path.{◌≡◌}
+use Prim.Native.Nat.{suc, ◌-◌, ◌≤◌}
 use lib.Dec.{leb}
 use lib.ListN.{length, drop}
 use Rattle.multipartition.specs.Lists.{first_failing}
 use Rattle.multipartition.specs.Jobs.{first_zero}
-use Rattle.multipartition.proofs.Searches.{failing_here, failing_later, failing_none}
 use Rattle.planner.proofs.first_zero.Given as goal
 
 abbrev pub invariant-loop-k : goal.invariant-loop-k

@@ -7,7 +7,6 @@ use Rattle.multipartition.specs.Cuts.{Thick, most_of}
 use Rattle.multipartition.proofs.Fitting.{most_of-ones}
 use Rattle.layout.specs.Plans.{five}
 use Rattle.planner.proofs.Given.{none_given, some_given}
-use borrow.Author.Rules.{rules}
 use Rattle.planner.proofs.most_slabs.Goals as goal
 
 pub returns-then-given-eq0 : goal.returns-then-given-eq0

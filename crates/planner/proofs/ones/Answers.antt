@@ -1,10 +1,8 @@
 use mathlib.Core.Path.{◌≡◌, refl, sym, ◌∙◌}
-use Prim.Native.Nat.{ℕ, ◌-◌, ◌≤◌, ◌<◌}
+use Prim.Native.Nat.{ℕ}
 use native.Mathlib.Omega.{arith}
-use borrow.Author.Rules.{rules}
-use lib.ListN.{length, replicate, length-set, length-replicate, get_or-replicate}
+use lib.ListN.{replicate, length-set, length-replicate, get_or-replicate}
 use lib.Seq.{get_or-set_other}
-use Rattle.matrix.specs.Rows.{at}
 use Rattle.matrix.proofs.Padding.{at_zeros, filled_more, five_of_filled}
 use Rattle.planner.proofs.ones.Goals as goal
 

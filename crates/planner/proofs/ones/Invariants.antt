@@ -1,12 +1,8 @@
 -- `ones` meets its contract. The loop's invariant: the first k places hold 1, the others zero.
-use mathlib.Core.Path.{◌≡◌, refl, sym, ◌∙◌}
+use mathlib.Core.Path.{◌≡◌}
 use Prim.Native.Nat.{ℕ, ◌-◌, ◌≤◌, ◌<◌}
-use native.Mathlib.Omega.{arith}
-use borrow.Author.Rules.{rules}
-use lib.ListN.{length, replicate, length-set, length-replicate, get_or-replicate}
-use lib.Seq.{get_or-set_other}
+use lib.ListN.{length, replicate}
 use Rattle.matrix.specs.Rows.{at}
-use Rattle.matrix.proofs.Padding.{at_zeros, filled_more, five_of_filled}
 use Rattle.planner.proofs.ones.Given as goal
 
 abbrev pub invariant-loop-k : goal.invariant-loop-k

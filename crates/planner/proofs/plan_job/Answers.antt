@@ -7,7 +7,6 @@ use Rattle.multipartition.specs.Jobs.{plan_with}
 use Rattle.multipartition.proofs.Jobs.{plan_of_passed}
 use Rattle.planner.specs.Planned.{planned_of}
 use Rattle.planner.proofs.Answers.{ready, turned_refused, turned_passed}
-use borrow.Author.Rules.{rules}
 use Rattle.planner.proofs.plan_job.Goals as goal
 use Rattle.planner.proofs.plan_job.Goals.{Start}
 

@@ -1,7 +1,6 @@
 -- `plan_with` meets its contract.
 use lib.ListN.{length}
 use Rattle.layout.specs.Plans.{plan_of}
-use borrow.Author.Rules.{rules}
 use Rattle.planner.proofs.plan_with.Goals as goal
 
 pub returns : goal.returns

@@ -1,14 +1,9 @@
 -- `quotients` meets its contract. The loop's invariant: the first k places hold the quotients, the others zero.
-use mathlib.Core.Path.{◌≡◌, refl, sym, ◌∙◌}
+use mathlib.Core.Path.{◌≡◌}
 use Prim.Native.Nat.{ℕ, ◌-◌, ◌≤◌, ◌<◌}
-use native.Mathlib.Omega.{arith}
-use borrow.Author.Rules.{rules}
-use lib.ListN.{length, length-set}
-use lib.Seq.{get_or-set_other}
+use lib.ListN.{length}
 use Rattle.multipartition.specs.Cuts.{most_of}
-use Rattle.multipartition.proofs.Fitting.{thick-length, thick_low, length-most_of, most_of-at}
 use Rattle.matrix.specs.Rows.{at}
-use Rattle.matrix.proofs.Padding.{at_zeros, filled_more, five_of_filled}
 use Rattle.planner.proofs.quotients.Given as goal
 
 abbrev pub invariant-loop-k : goal.invariant-loop-k

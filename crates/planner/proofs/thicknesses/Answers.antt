@@ -2,7 +2,6 @@
 use mathlib.Core.Path.{ap, ◌∙◌}
 use Rattle.layout.specs.Plans.{five}
 use Rattle.planner.proofs.Given.{none_given, some_given}
-use borrow.Author.Rules.{rules}
 use Rattle.planner.proofs.thicknesses.Goals as goal
 
 pub returns-then-given-eq0 : goal.returns-then-given-eq0

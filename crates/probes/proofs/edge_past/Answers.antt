@@ -1,7 +1,4 @@
-use Prim.Native.Nat.{◌-◌, ◌≤◌, ◌<◌}
 use native.Mathlib.Omega.{arith}
-use Rattle.multipartition.specs.Slabs.{slab_start}
-use Rattle.probes.specs.Edges.{Split, Behind}
 use Rattle.probes.proofs.Edges.{slab_follows, next_starts, edge_of}
 use Rattle.probes.proofs.edge_past.Goals as goal
 

@@ -1,9 +1,7 @@
 -- `edge_past` meets its contract. The loop's invariant: the slab of the edge starts at the element or before it.
 use Prim.Native.Nat.{◌-◌, ◌≤◌, ◌<◌}
-use native.Mathlib.Omega.{arith}
 use Rattle.multipartition.specs.Slabs.{slab_start}
 use Rattle.probes.specs.Edges.{Split, Behind}
-use Rattle.probes.proofs.Edges.{slab_follows, next_starts, edge_of}
 use Rattle.probes.proofs.edge_past.Given as goal
 
 abbrev pub invariant-loop-edge : goal.invariant-loop-edge

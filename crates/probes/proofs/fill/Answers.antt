@@ -1,15 +1,11 @@
 use mathlib.Core.Path.{◌≡◌, refl, ◌∙◌}
-use Prim.Native.Nat.{◌-◌, ◌≤◌, ◌<◌}
 use native.Mathlib.Nat.{le_trans}
 use native.Mathlib.Numerals.{add-one}
 use native.Mathlib.Omega.{arith}
-use borrow.Author.Rules.{rules}
-use lib.ListN.{length, get_or, length-set}
-use Rattle.multipartition.specs.Slabs.{slab_start}
+use lib.ListN.{length, length-set}
 use Rattle.multipartition.proofs.Slabs.{slab_start-zero}
-use Rattle.probes.specs.Edges.{Split, Behind}
 use Rattle.probes.proofs.Edges.{split_of, edge-first, slab_of_starts}
-use Rattle.probes.proofs.Filling.{filled, filled_none, filled_next, filled_all}
+use Rattle.probes.proofs.Filling.{filled_none, filled_next, filled_all}
 use Rattle.probes.proofs.fill.Goals as goal
 
 pub thickness-requires : goal.thickness-requires

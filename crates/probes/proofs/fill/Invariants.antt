@@ -1,17 +1,11 @@
 -- `fill` meets its contract. The loop's invariant: the slabs of the elements before place i stand, and the slab of the edge starts at the element at
 -- place i or before it.
-use mathlib.Core.Path.{◌≡◌, refl, ◌∙◌}
+use mathlib.Core.Path.{◌≡◌}
 use Prim.Native.Nat.{◌-◌, ◌≤◌, ◌<◌}
-use native.Mathlib.Nat.{le_trans}
-use native.Mathlib.Numerals.{add-one}
-use native.Mathlib.Omega.{arith}
-use borrow.Author.Rules.{rules}
-use lib.ListN.{length, get_or, length-set}
+use lib.ListN.{length, get_or}
 use Rattle.multipartition.specs.Slabs.{slab_start}
-use Rattle.multipartition.proofs.Slabs.{slab_start-zero}
 use Rattle.probes.specs.Edges.{Split, Behind}
-use Rattle.probes.proofs.Edges.{split_of, edge-first, slab_of_starts}
-use Rattle.probes.proofs.Filling.{filled, filled_none, filled_next, filled_all}
+use Rattle.probes.proofs.Filling.{filled}
 use Rattle.probes.proofs.fill.Given as goal
 
 abbrev pub invariant-loop-i : goal.invariant-loop-i

@@ -1,10 +1,7 @@
 use mathlib.Core.Path.{◌≡◌, sym, ◌∙◌}
-use Prim.Native.Nat.{suc, ◌+◌, ◌-◌, ◌≤◌}
+use Prim.Native.Nat.{suc, ◌+◌, ◌-◌}
 use native.Mathlib.Numerals.{add-one}
 use native.Mathlib.Omega.{arith}
-use borrow.Author.Rules.{rules}
-use lib.ListN.{length, get_or, drop}
-use Rattle.probes.specs.Probes.{first_fall_from, first_fall}
 use Rattle.probes.proofs.Falls.{fall_start, fall_here, fall_later, fall_none}
 use Rattle.probes.proofs.first_fall.Goals as goal
 

@@ -1,12 +1,8 @@
 -- `first_fall` meets its contract. The loop's invariant: no element before place i is smaller than the one before it.
-use mathlib.Core.Path.{◌≡◌, sym, ◌∙◌}
-use Prim.Native.Nat.{suc, ◌+◌, ◌-◌, ◌≤◌}
-use native.Mathlib.Numerals.{add-one}
-use native.Mathlib.Omega.{arith}
-use borrow.Author.Rules.{rules}
+use mathlib.Core.Path.{◌≡◌}
+use Prim.Native.Nat.{suc, ◌-◌, ◌≤◌}
 use lib.ListN.{length, get_or, drop}
 use Rattle.probes.specs.Probes.{first_fall_from, first_fall}
-use Rattle.probes.proofs.Falls.{fall_start, fall_here, fall_later, fall_none}
 use Rattle.probes.proofs.first_fall.Given as goal
 
 abbrev pub invariant-loop-i : goal.invariant-loop-i

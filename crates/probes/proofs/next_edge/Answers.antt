@@ -1,7 +1,6 @@
 -- `next_edge` meets its contract.
 use mathlib.Core.Path.{refl}
 use native.Mathlib.Omega.{arith}
-use borrow.Author.Rules.{rules}
 use borrow.Author.Tests.{lt-ltb, le-ltb}
 use Rattle.probes.proofs.Edges.{edge_high, edge-next, thin_high}
 use Rattle.probes.proofs.next_edge.Goals as goal

@@ -1,14 +1,10 @@
 -- `rises` meets its contract. The loop's invariant: with the elements that are left it is said of all.
-use mathlib.Core.Path.{◌≡◌, sym, ap, ◌∙◌}
-use mathlib.Core.Bool.{Bool, ◌&&◌, and_assoc, and-true}
-use Prim.Native.Nat.{ℕ, suc, ◌+◌, ◌-◌, ◌≤◌}
-use native.Mathlib.Numerals.{add-one}
-use native.Mathlib.Omega.{arith}
-use borrow.Author.Rules.{rules}
+use mathlib.Core.Path.{◌≡◌}
+use mathlib.Core.Bool.{◌&&◌}
+use Prim.Native.Nat.{suc, ◌-◌, ◌≤◌}
 use lib.Dec.{eqb}
 use lib.ListN.{length, get_or, drop}
 use Rattle.probes.specs.Probes.{first_fall_from, first_fall}
-use Rattle.probes.proofs.Falls.{fall_start, fall_none, rises_next}
 use Rattle.probes.proofs.rises.Given as goal
 
 abbrev pub invariant-loop-i : goal.invariant-loop-i

@@ -1,12 +1,7 @@
 -- `questions::below_cuts` meets its contract. Assumes nothing.
-use borrow.Author.Rules.{rules}
 use mathlib.Core.Path.{◌≡◌, sym}
-use Prim.Native.Nat.{◌≤◌, ◌-◌}
 use native.Mathlib.Omega.{arith}
-use lib.Dec.{ltb}
-use lib.ListN.{get_or}
 use Rattle.layout.proofs.Lists.{all_none, all-add-one}
-use Rattle.multipartition.specs.Lists.{all_below}
 use Rattle.questions.proofs.below_cuts.Goals as goal
 
 pub loop-k-init : goal.loop-k-init

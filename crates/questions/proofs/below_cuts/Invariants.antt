@@ -1,10 +1,7 @@
-use borrow.Author.Rules.{rules}
-use mathlib.Core.Path.{◌≡◌, sym}
+use mathlib.Core.Path.{◌≡◌}
 use Prim.Native.Nat.{◌≤◌, ◌-◌}
-use native.Mathlib.Omega.{arith}
 use lib.Dec.{ltb}
 use lib.ListN.{get_or}
-use Rattle.layout.proofs.Lists.{all_none, all-add-one}
 use Rattle.multipartition.specs.Lists.{all_below}
 use Rattle.questions.proofs.below_cuts.Given as goal
 

@@ -1,5 +1,4 @@
 -- `questions::coordinate` meets its contract. Assumes nothing.
-use borrow.Author.Rules.{rules}
 use mathlib.Core.Path.{sym}
 use native.Mathlib.Nat.{mod-one}
 use Rattle.questions.proofs.coordinate.Goals as goal

@@ -1,6 +1,5 @@
 -- `questions::modulo` meets its contract. Assumes nothing.
 use mathlib.Core.Path.{◌∙◌, sym}
-use Prim.Native.Nat.{◌-◌}
 use native.Mathlib.Omega.{arith}
 use native.Mathlib.Nat.{mod-eq_of_lt, mod-eq-sub-mod}
 use Rattle.questions.proofs.modulo.Goals as goal

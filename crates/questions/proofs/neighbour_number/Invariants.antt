@@ -1,11 +1,5 @@
-use borrow.Author.Rules.{rules}
-use Prim.Native.Nat.{◌≤◌, ◌-◌}
-use native.Mathlib.Omega.{arith}
-use native.Mathlib.Nat.{mod-lt}
-use Prim.Native.Nat.{ℕ, ◌+◌, ◌*◌, ◌/◌, ◌<◌}
-use lib.ListN.{get_or}
-use Rattle.questions.proofs.Neighbours.{Walked, walk_start, walk-next, walk_number_high, walk_radix_high, walk_end}
-use Rattle.questions.proofs.Bounds.{modulus_high}
+use Prim.Native.Nat.{◌≤◌}
+use Rattle.questions.proofs.Neighbours.{Walked}
 use Rattle.questions.proofs.neighbour_number.Given as goal
 
 abbrev pub invariant-loop-i : goal.invariant-loop-i

@@ -1,11 +1,6 @@
-use borrow.Author.Rules.{rules}
-use mathlib.Core.Path.{◌≡◌, sym}
+use mathlib.Core.Path.{◌≡◌}
 use Prim.Native.Nat.{◌≤◌, ◌-◌}
-use native.Mathlib.Omega.{arith}
-use Prim.Native.Nat.{ℕ, ◌+◌, ◌*◌}
-use lib.ListN.{get_or}
-use Rattle.questions.proofs.Owners.{owner_front, owner_front_none, owner_front-next, owner_front_high, owner_front_room, owner_front_all}
-use Rattle.questions.proofs.Bounds.{small_row}
+use Rattle.questions.proofs.Owners.{owner_front}
 use Rattle.questions.proofs.owner_number.Given as goal
 
 abbrev pub invariant-loop-i : goal.invariant-loop-i

@@ -1,9 +1,6 @@
 -- `questions::owner_over` meets its contract. Assumes nothing.
-use borrow.Author.Rules.{rules}
 use mathlib.Core.Path.{◌≡◌, ◌∙◌, sym, ap}
-use Prim.Native.Nat.{◌-◌}
 use native.Mathlib.Omega.{arith}
-use borrow.Author.Tests.{not-true, not-false}
 use mathlib.Core.Bool.{true}
 use Rattle.questions.proofs.Answers.{owner_of_misshapen, owner_of_outside, owner_of_inside}
 use Rattle.questions.proofs.Bounds.{reduced_of_shaped, small_of_in_grid}

@@ -1,12 +1,10 @@
 -- `questions::row_times` meets its contract. Assumes nothing.
-use borrow.Author.Rules.{rules}
 use mathlib.Core.Path.{◌≡◌, sym}
-use Prim.Native.Nat.{◌*◌, ◌≤◌, ◌-◌}
+use Prim.Native.Nat.{◌*◌}
 use native.Mathlib.Omega.{arith}
-use lib.ListN.{take, drop}
+use lib.ListN.{drop}
 use Rattle.questions.proofs.Bounds.{row-add-one, term_high, times_high}
 use Rattle.layout.proofs.Owners.{times_none}
-use Rattle.multipartition.specs.Owners.{times}
 use Rattle.questions.proofs.row_times.Goals as goal
 
 pub loop-j-init : goal.loop-j-init

@@ -1,10 +1,6 @@
-use borrow.Author.Rules.{rules}
-use mathlib.Core.Path.{◌≡◌, sym}
+use mathlib.Core.Path.{◌≡◌}
 use Prim.Native.Nat.{◌*◌, ◌≤◌, ◌-◌}
-use native.Mathlib.Omega.{arith}
 use lib.ListN.{take, drop}
-use Rattle.questions.proofs.Bounds.{row-add-one, term_high, times_high}
-use Rattle.layout.proofs.Owners.{times_none}
 use Rattle.multipartition.specs.Owners.{times}
 use Rattle.questions.proofs.row_times.Given as goal
 

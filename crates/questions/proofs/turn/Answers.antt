@@ -1,7 +1,5 @@
 -- `questions::turn` meets its contract. Assumes nothing.
-use borrow.Author.Rules.{rules}
 use mathlib.Core.Path.{◌∙◌, sym}
-use Prim.Native.Nat.{◌-◌}
 use Rattle.questions.proofs.Neighbours.{turn_down}
 use Rattle.multipartition.specs.Neighbours.{turn}
 use Rattle.questions.proofs.turn.Goals as goal

@@ -1,6 +1,4 @@
 -- `refused_share::smallest_refused` meets its contract. Assumes nothing.
-use borrow.Author.Rules.{rules}
-use borrow.Author.Tests.{not-true, not-false}
 use mathlib.Core.Path.{sym, ap, ◌∙◌, subst⁻¹}
 use mathlib.Core.Option.{some}
 use Prim.Native.Nat.{ℕ}

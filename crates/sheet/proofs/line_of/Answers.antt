@@ -3,7 +3,6 @@ use Prim.Native.Nat.{◌+◌}
 use native.Mathlib.Numerals.{add-one}
 use native.Mathlib.Omega.{arith}
 use borrow.Author.Tests.{lt-ltb, le-ltb}
-use borrow.Author.Rules.{rules}
 use Rattle.sheet.specs.Pages.{sheet_line}
 use Rattle.sheet.proofs.Pages.{start_high}
 use Rattle.sheet.proofs.line_of.Goals as goal

@@ -1,10 +1,9 @@
-use mathlib.Core.Path.{◌≡◌, refl, ◌∙◌}
+use mathlib.Core.Path.{◌∙◌}
 use mathlib.Core.List.{map}
-use Prim.Native.Nat.{◌+◌, ◌-◌, min, ◌≤◌}
+use Prim.Native.Nat.{◌+◌}
 use native.Mathlib.Omega.{arith}
-use lib.ListN.{length, length-set}
-use lib.Seq.{paste, paste-zero}
-use borrow.Author.Rules.{rules}
+use lib.ListN.{length-set}
+use lib.Seq.{paste-zero}
 use Rattle.sheet.specs.Lines.{shown}
 use Rattle.sheet.proofs.Writing.{captioned-next, captioned_all}
 use Rattle.sheet.proofs.put_caption.Goals as goal

@@ -1,13 +1,10 @@
 -- `put_caption` meets its contract. The invariant: the first i bytes of the caption stand.
-use mathlib.Core.Path.{◌≡◌, refl, ◌∙◌}
+use mathlib.Core.Path.{◌≡◌}
 use mathlib.Core.List.{map}
-use Prim.Native.Nat.{◌+◌, ◌-◌, min, ◌≤◌}
-use native.Mathlib.Omega.{arith}
-use lib.ListN.{length, length-set}
-use lib.Seq.{paste, paste-zero}
-use borrow.Author.Rules.{rules}
+use Prim.Native.Nat.{◌-◌, min, ◌≤◌}
+use lib.ListN.{length}
+use lib.Seq.{paste}
 use Rattle.sheet.specs.Lines.{shown}
-use Rattle.sheet.proofs.Writing.{captioned-next, captioned_all}
 use Rattle.sheet.proofs.put_caption.Given as goal
 
 abbrev pub invariant-loop-i : goal.invariant-loop-i

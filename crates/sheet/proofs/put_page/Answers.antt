@@ -1,11 +1,10 @@
 -- `put_page` meets its contract.
-use mathlib.Core.Path.{◌≡◌, sym, ap, ◌∙◌}
-use Prim.Native.Nat.{ℕ, ◌-◌, ◌*◌, ◌≤◌}
+use mathlib.Core.Path.{sym, ap, ◌∙◌}
+use Prim.Native.Nat.{ℕ, ◌*◌}
 use native.Mathlib.Omega.{arith}
-use lib.ListN.{length}
 use borrow.Author.Rules.{rules}
 use Rattle.sheet.specs.Pages.{sheet_line}
-use Rattle.sheet.proofs.Pages.{length-sheet_line, written, written_none, written_next, written_all}
+use Rattle.sheet.proofs.Pages.{length-sheet_line, written_none, written_next, written_all}
 use Rattle.sheet.proofs.put_page.Goals as goal
 
 pub loop-i-init : goal.loop-i-init

@@ -1,10 +1,8 @@
-use mathlib.Core.Path.{◌≡◌, sym, ap, ◌∙◌}
-use Prim.Native.Nat.{ℕ, ◌-◌, ◌*◌, ◌≤◌}
-use native.Mathlib.Omega.{arith}
+use mathlib.Core.Path.{◌≡◌}
+use Prim.Native.Nat.{◌-◌, ◌≤◌}
 use lib.ListN.{length}
-use borrow.Author.Rules.{rules}
 use Rattle.sheet.specs.Pages.{sheet_line}
-use Rattle.sheet.proofs.Pages.{length-sheet_line, written, written_none, written_next, written_all}
+use Rattle.sheet.proofs.Pages.{written}
 use Rattle.sheet.proofs.put_page.Given as goal
 
 abbrev pub invariant-loop-i : goal.invariant-loop-i

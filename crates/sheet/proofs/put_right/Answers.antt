@@ -1,8 +1,7 @@
-use mathlib.Core.Path.{◌≡◌, ◌∙◌}
+use mathlib.Core.Path.{◌∙◌}
 use native.Mathlib.Omega.{arith}
-use lib.ListN.{length, length-set}
-use borrow.Author.Rules.{rules}
-use Rattle.sheet.proofs.Digits.{Behind, behind_none, behind_inside, behind_more, behind_all}
+use lib.ListN.{length-set}
+use Rattle.sheet.proofs.Digits.{behind_none, behind_inside, behind_more, behind_all}
 use Rattle.sheet.proofs.put_right.Goals as goal
 
 pub overflow_sub-at : goal.overflow_sub-at

@@ -1,9 +1,7 @@
 -- `put_right` meets its contract. The invariant: the digits behind those of the rest stand.
-use mathlib.Core.Path.{◌≡◌, ◌∙◌}
-use native.Mathlib.Omega.{arith}
-use lib.ListN.{length, length-set}
-use borrow.Author.Rules.{rules}
-use Rattle.sheet.proofs.Digits.{Behind, behind_none, behind_inside, behind_more, behind_all}
+use mathlib.Core.Path.{◌≡◌}
+use lib.ListN.{length}
+use Rattle.sheet.proofs.Digits.{Behind}
 use Rattle.sheet.proofs.put_right.Given as goal
 
 abbrev pub invariant-loop-rest : goal.invariant-loop-rest

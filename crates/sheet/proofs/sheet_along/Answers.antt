@@ -1,9 +1,8 @@
 -- `sheet_along` meets its contract.
-use Prim.Native.Nat.{◌+◌, ◌-◌, ◌/◌, ◌≤◌}
+use Prim.Native.Nat.{◌-◌, ◌/◌, ◌≤◌}
 use native.Mathlib.Omega.{arith}
 use lib.ListN.{get_or}
 use borrow.Author.Tests.{eq-eqb, ne_eqb}
-use borrow.Author.Rules.{rules}
 use Rattle.sheet.proofs.Outcomes.{page_low, along-at, fits-at, refused_8, refused_9, written_page}
 use Rattle.sheet.proofs.sheet_along.Goals as goal
 use Rattle.sheet.proofs.sheet_along.Goals.{Else-b-page}

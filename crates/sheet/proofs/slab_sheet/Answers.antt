@@ -3,7 +3,6 @@ use mathlib.Core.Path.{ap}
 use mathlib.Core.Bool.{not}
 use mathlib.Core.Path.{sym, ◌∙◌}
 use native.Mathlib.Omega.{arith}
-use borrow.Author.Rules.{rules}
 use borrow.Author.Tests.{not-false}
 use Rattle.tiles.proofs.Numbering.{fails_shape, passes_shape, fails_dimension, passes_dimension, Placed}
 use Rattle.sheet.proofs.Outcomes.{refused-6, refused_7}

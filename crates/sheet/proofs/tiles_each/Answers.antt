@@ -2,7 +2,6 @@
 use Prim.Native.Nat.{◌*◌, ◌≤◌, ◌<◌}
 use native.Mathlib.Omega.{arith}
 use lib.ListN.{get_or}
-use borrow.Author.Rules.{rules}
 use Rattle.layout.specs.Plans.{layout_of}
 use Rattle.tiles.proofs.Numbering.{cut_at}
 use Rattle.sheet.specs.Pages.{tiles_each}

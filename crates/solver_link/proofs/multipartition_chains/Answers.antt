@@ -1,5 +1,4 @@
 -- `solver_link::multipartition_chains` meets its contract. Assumes nothing.
-use borrow.Author.Rules.{rules}
 use mathlib.Core.Path.{sym, ap, ◌∙◌}
 use Rattle.chains.specs.declared.Chained.{Chained}
 use Rattle.chains.specs.Told.{told_chained}

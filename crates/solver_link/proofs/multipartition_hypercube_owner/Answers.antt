@@ -1,7 +1,5 @@
 -- `solver_link::multipartition_hypercube_owner` meets its contract. Assumes nothing.
-use borrow.Author.Rules.{rules}
-use mathlib.Core.Path.{sym, ap, ◌∙◌}
-use Rattle.questions.specs.Told.{told_owner}
+use mathlib.Core.Path.{sym}
 use Rattle.solver_link.specs.Link.{hypercube_owner_link}
 use Rattle.solver_link.proofs.Answers.{linked_asked_answered, linked_asked_refused}
 use Rattle.solver_link.proofs.multipartition_hypercube_owner.Goals as goal

@@ -1,7 +1,5 @@
 -- `solver_link::multipartition_neighbour` meets its contract. Assumes nothing.
-use borrow.Author.Rules.{rules}
-use mathlib.Core.Path.{sym, ap, ◌∙◌}
-use Rattle.questions.specs.Told.{told_neighbour}
+use mathlib.Core.Path.{sym}
 use Rattle.solver_link.specs.Link.{neighbour_link}
 use Rattle.solver_link.proofs.Answers.{linked_list-length, linked_answered, linked_refused}
 use Rattle.solver_link.proofs.multipartition_neighbour.Goals as goal

@@ -1,7 +1,5 @@
 -- `solver_link::multipartition_owner` meets its contract. Assumes nothing.
-use borrow.Author.Rules.{rules}
-use mathlib.Core.Path.{sym, ap, ◌∙◌}
-use Rattle.questions.specs.Told.{told_owner}
+use mathlib.Core.Path.{sym}
 use Rattle.solver_link.specs.Link.{owner_link}
 use Rattle.solver_link.proofs.Answers.{linked_list-length, linked_answered, linked_refused}
 use Rattle.solver_link.proofs.multipartition_owner.Goals as goal

@@ -1,7 +1,5 @@
 -- `solver_link::multipartition_slab_of` meets its contract. Assumes nothing.
-use borrow.Author.Rules.{rules}
-use mathlib.Core.Path.{sym, ap, ◌∙◌}
-use Rattle.tiles.specs.Answers.{told_slab}
+use mathlib.Core.Path.{sym}
 use Rattle.solver_link.specs.Link.{slab_of_link}
 use Rattle.solver_link.proofs.Answers.{linked_list-length, linked_answered, linked_refused}
 use Rattle.solver_link.proofs.multipartition_slab_of.Goals as goal

@@ -1,5 +1,4 @@
 -- `solver_link::multipartition_slab_sheet` meets its contract. Assumes nothing.
-use borrow.Author.Rules.{rules}
 use mathlib.Core.Path.{sym, ap, ◌∙◌}
 use Rattle.sheet.specs.declared.Sheet.{Sheet}
 use Rattle.sheet.specs.Told.{told_sheet}

@@ -1,5 +1,4 @@
 -- `solver_link::multipartition_slabs_of` meets its contract. Assumes nothing.
-use borrow.Author.Rules.{rules}
 use mathlib.Core.Path.{sym, ap, ◌∙◌}
 use Rattle.probes.specs.declared.Probed.{Probed}
 use Rattle.probes.specs.Told.{told_probed}

@@ -1,7 +1,5 @@
 -- `solver_link::multipartition_smallest_refused` meets its contract. Assumes nothing.
-use borrow.Author.Rules.{rules}
-use mathlib.Core.Path.{sym, ap, ◌∙◌}
-use Rattle.refused_share.specs.Told.{told_share}
+use mathlib.Core.Path.{sym}
 use Rattle.solver_link.specs.Link.{smallest_refused_link}
 use Rattle.solver_link.proofs.Answers.{linked_asked_answered, linked_asked_refused}
 use Rattle.solver_link.proofs.multipartition_smallest_refused.Goals as goal

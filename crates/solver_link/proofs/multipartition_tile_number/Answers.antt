@@ -1,7 +1,5 @@
 -- `solver_link::multipartition_tile_number` meets its contract. Assumes nothing.
-use borrow.Author.Rules.{rules}
-use mathlib.Core.Path.{sym, ap, ◌∙◌}
-use Rattle.tiles.specs.Answers.{told_number}
+use mathlib.Core.Path.{sym, ◌∙◌}
 use Rattle.link_lists.specs.Lists.{plan_in}
 use Rattle.link_lists.proofs.Positions.{number_with}
 use Rattle.solver_link.specs.Link.{tile_number_link}

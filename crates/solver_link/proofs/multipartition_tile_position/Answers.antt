@@ -1,5 +1,4 @@
 -- `solver_link::multipartition_tile_position` meets its contract. Assumes nothing.
-use borrow.Author.Rules.{rules}
 use mathlib.Core.Path.{sym, ap, ◌∙◌}
 use native.Mathlib.Omega.{arith}
 use Rattle.tiles.specs.declared.positions.Lookup.{Lookup}

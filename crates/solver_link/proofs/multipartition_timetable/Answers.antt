@@ -1,7 +1,5 @@
 -- `solver_link::multipartition_timetable` meets its contract. Assumes nothing.
-use borrow.Author.Rules.{rules}
-use mathlib.Core.Path.{sym, ap, ◌∙◌}
-use Rattle.timetable.specs.Told.{told_visited}
+use mathlib.Core.Path.{sym}
 use Rattle.solver_link.specs.Link.{timetable_link}
 use Rattle.solver_link.proofs.Answers.{linked_list-length, linked_answered, linked_refused}
 use Rattle.solver_link.proofs.multipartition_timetable.Goals as goal

@@ -1,5 +1,4 @@
 -- `solver_link::put_planned` meets its contract. Assumes nothing.
-use borrow.Author.Rules.{rules}
 use borrow.Author.Tests.{eq-eqb, ne_eqb}
 use mathlib.Core.Path.{refl}
 use Rattle.solver_link.specs.Link.{planned_listed}

@@ -3,7 +3,6 @@ use mathlib.Core.Path.{◌∙◌}
 use mathlib.Core.Bool.{not}
 use borrow.Author.Tests.{eq-eqb}
 use Rattle.timetable.proofs.Visits.{expects_on}
-use borrow.Author.Rules.{rules}
 use Rattle.timetable.proofs.expects.Goals as goal
 
 pub returns-then-step-eq0 : goal.returns-then-step-eq0

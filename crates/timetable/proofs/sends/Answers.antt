@@ -2,7 +2,6 @@
 use mathlib.Core.Path.{◌∙◌}
 use native.Mathlib.Omega.{arith}
 use Rattle.timetable.proofs.Visits.{sends_last, sends_on}
-use borrow.Author.Rules.{rules}
 use Rattle.timetable.proofs.sends.Goals as goal
 
 pub overflow_add-step : goal.overflow_add-step

@@ -3,7 +3,6 @@ use mathlib.Core.Path.{sym, ap}
 use mathlib.Core.Bool.{Bool}
 use native.Mathlib.Omega.{arith}
 use Rattle.timetable.specs.Timetable.{slab_visited}
-use borrow.Author.Rules.{rules}
 use Rattle.timetable.proofs.slab_visited.Goals as goal
 
 pub returns-then-up : goal.returns-then-up

@@ -1,7 +1,6 @@
 -- `visit_along` meets its contract.
 use Rattle.timetable.specs.Told.{told_message}
 use Rattle.timetable.proofs.Visits.{visit_is}
-use borrow.Author.Rules.{rules}
 use Rattle.timetable.proofs.visit_along.Goals as goal
 
 pub returns : goal.returns

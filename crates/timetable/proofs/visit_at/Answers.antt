@@ -3,12 +3,10 @@ use mathlib.Core.Path.{◌≡◌, sym, ◌∙◌}
 use mathlib.Core.Bool.{true}
 use Prim.Native.Nat.{◌+◌, ◌-◌}
 use native.Mathlib.Omega.{arith}
-use borrow.Author.Tests.{not-true, not-false}
 use Rattle.multipartition.specs.Plans.{in_shape}
 use Rattle.layout.specs.Plans.{layout_of}
 use Rattle.layout.proofs.Shaped.{shaped}
 use Rattle.timetable.proofs.Visits.{refused-6, refused_7_below, refused_7_above}
-use borrow.Author.Rules.{rules}
 use Rattle.timetable.proofs.visit_at.Goals as goal
 use Rattle.timetable.proofs.visit_at.Goals.{Else-not-in_shape}
 

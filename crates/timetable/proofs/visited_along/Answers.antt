@@ -2,13 +2,12 @@
 use mathlib.Core.Path.{◌≡◌, sym, ap, ◌∙◌}
 use mathlib.Core.Bool.{true}
 use Prim.Native.Nat.{◌+◌}
-use borrow.Author.Tests.{not-true, not-false, leb-true}
+use borrow.Author.Tests.{leb-true}
 use lib.Dec.{leb}
 use Rattle.multipartition.specs.Answers.{answered}
 use Rattle.layout.specs.Plans.{layout_of}
 use Rattle.timetable.specs.Timetable.{other_extents}
 use Rattle.timetable.proofs.Visits.{along-11, along_8-step, along_8_processor, along_visited}
-use borrow.Author.Rules.{rules}
 use Rattle.timetable.proofs.visited_along.Goals as goal
 use Rattle.timetable.proofs.visited_along.Goals.{Else-not-others_fit}
 

@@ -1,9 +1,5 @@
-use borrow.Author.Rules.{rules}
-use mathlib.Core.Path.{◌≡◌}
-use Prim.Native.Nat.{◌+◌, ◌-◌, ◌*◌, ◌≤◌, ◌<◌}
-use native.Mathlib.Omega.{arith}
-use lib.ListN.{get_or, set}
-use Rattle.walks.proofs.Filling.{Stepping, stride_modulus_high, stepping_none, stepping-next, stepping_high}
+use Prim.Native.Nat.{◌-◌, ◌≤◌}
+use Rattle.walks.proofs.Filling.{Stepping}
 use Rattle.walks.proofs.next.Given as goal
 
 abbrev pub invariant-loop-i : goal.invariant-loop-i

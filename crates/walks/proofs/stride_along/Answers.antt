@@ -1,9 +1,7 @@
 -- `walks::stride_along` meets its contract. Assumes nothing.
-use borrow.Author.Rules.{rules}
 use mathlib.Core.Path.{◌≡◌}
-use Prim.Native.Nat.{◌-◌, ◌≤◌}
 use native.Mathlib.Omega.{arith}
-use Rattle.walks.proofs.Filling.{Striding, striding_none, striding-next}
+use Rattle.walks.proofs.Filling.{striding_none, striding-next}
 use Rattle.walks.proofs.stride_along.Goals as goal
 
 pub loop-i-init : goal.loop-i-init

@@ -1,8 +1,5 @@
-use borrow.Author.Rules.{rules}
-use mathlib.Core.Path.{◌≡◌}
 use Prim.Native.Nat.{◌-◌, ◌≤◌}
-use native.Mathlib.Omega.{arith}
-use Rattle.walks.proofs.Filling.{Striding, striding_none, striding-next}
+use Rattle.walks.proofs.Filling.{Striding}
 use Rattle.walks.proofs.stride_along.Given as goal
 
 abbrev pub invariant-loop-i : goal.invariant-loop-i

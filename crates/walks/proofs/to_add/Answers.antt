@@ -1,5 +1,4 @@
 -- `walks::to_add` meets its contract. Assumes nothing.
-use borrow.Author.Rules.{rules}
 use Rattle.walks.proofs.to_add.Goals as goal
 
 pub returns : goal.returns

@@ -1,9 +1,8 @@
 -- `walks::with_coordinates` meets its contract. Assumes nothing.
-use borrow.Author.Rules.{rules}
 use mathlib.Core.Path.{refl}
-use Prim.Native.Nat.{◌-◌, ◌≤◌}
+use Prim.Native.Nat.{◌-◌}
 use native.Mathlib.Omega.{arith}
-use Rattle.walks.proofs.Filling.{Standing, standing_none, standing-next}
+use Rattle.walks.proofs.Filling.{standing_none, standing-next}
 use Rattle.walks.proofs.with_coordinates.Goals as goal
 
 pub loop-i-init : goal.loop-i-init

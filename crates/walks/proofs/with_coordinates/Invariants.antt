@@ -1,8 +1,5 @@
-use borrow.Author.Rules.{rules}
-use mathlib.Core.Path.{refl}
-use Prim.Native.Nat.{◌-◌, ◌≤◌}
-use native.Mathlib.Omega.{arith}
-use Rattle.walks.proofs.Filling.{Standing, standing_none, standing-next}
+use Prim.Native.Nat.{◌≤◌}
+use Rattle.walks.proofs.Filling.{Standing}
 use Rattle.walks.proofs.with_coordinates.Given as goal
 
 abbrev pub invariant-loop-i : goal.invariant-loop-i

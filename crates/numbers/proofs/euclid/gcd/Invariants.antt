@@ -1,11 +1,7 @@
 -- `gcd` meets its contract. The loop's invariant: the two numbers in hand have the gcd that is asked for.
 -- The measure is the second of them.
-use mathlib.Core.Path.{◌≡◌, refl, sym, ap, ◌∙◌}
-use Prim.Native.Nat.{ℕ}
-use native.Mathlib.Nat.{mod-lt}
-use native.Mathlib.Omega.{arith}
+use mathlib.Core.Path.{◌≡◌}
 use Rattle.numbers.specs.Gcd.{gcd}
-use Rattle.numbers.proofs.Gcd.{gcd-zero, gcd-step}
 use Rattle.numbers.proofs.euclid.gcd.Given as goal
 
 abbrev pub invariant-loop-y : goal.invariant-loop-y

@@ -1,10 +1,8 @@
 use mathlib.Core.Path.{◌≡◌, refl}
 use Prim.Native.Nat.{◌<◌}
 use native.Mathlib.Omega.{arith}
-use borrow.Author.Rules.{rules}
-use Rattle.numbers.specs.LeastFactor.{least_factor, LeastFactors}
-use Rattle.numbers.specs.Divisors.{divisors_of, Listed}
-use Rattle.numbers.proofs.LeastFactor.{Factoring, factoring-step, factoring_end, rest_le, done-le, rest_falls, done_pos, factor_prime}
+use Rattle.numbers.specs.LeastFactor.{least_factor}
+use Rattle.numbers.proofs.LeastFactor.{factoring-step, factoring_end, rest_le, done-le, rest_falls, done_pos, factor_prime}
 use Rattle.numbers.proofs.Merge.{listed-one}
 use Rattle.numbers.proofs.factors.by_factors.Goals as goal
 

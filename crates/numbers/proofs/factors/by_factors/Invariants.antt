@@ -1,13 +1,8 @@
 -- `by_factors` meets its contract. The loop's invariant: done * rest is n, and the divisors of `done` are known.
 -- `rest` falls, since its least factor is above 1.
-use mathlib.Core.Path.{◌≡◌, refl}
-use Prim.Native.Nat.{◌<◌}
-use native.Mathlib.Omega.{arith}
-use borrow.Author.Rules.{rules}
-use Rattle.numbers.specs.LeastFactor.{least_factor, LeastFactors}
+use Rattle.numbers.specs.LeastFactor.{LeastFactors}
 use Rattle.numbers.specs.Divisors.{divisors_of, Listed}
-use Rattle.numbers.proofs.LeastFactor.{Factoring, factoring-step, factoring_end, rest_le, done-le, rest_falls, done_pos, factor_prime}
-use Rattle.numbers.proofs.Merge.{listed-one}
+use Rattle.numbers.proofs.LeastFactor.{Factoring}
 use Rattle.numbers.proofs.factors.by_factors.Given as goal
 
 abbrev pub invariant-loop-rest : goal.invariant-loop-rest

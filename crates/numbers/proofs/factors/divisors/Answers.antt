@@ -1,6 +1,5 @@
 -- `divisors` meets its contract: its checks are those of `divisors_answer`.
 use native.Mathlib.Omega.{arith}
-use borrow.Author.Rules.{rules}
 use Rattle.numbers.proofs.Divisors.{divisors_answer-zero, divisors_answer_above, divisors_answer_inside}
 use Rattle.numbers.proofs.Merge.{listed_none}
 use Rattle.numbers.proofs.factors.divisors.Goals as goal

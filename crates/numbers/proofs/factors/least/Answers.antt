@@ -1,6 +1,5 @@
 -- `least` meets its contract: the table that is lent has the least factor at n.
 use native.Mathlib.Omega.{arith}
-use borrow.Author.Rules.{rules}
 use Rattle.numbers.proofs.factors.least.Goals as goal
 
 pub returns : goal.returns

@@ -1,7 +1,6 @@
 -- `least_factor` meets its contract: the two checks are those of `least_factor_answer`.
 use mathlib.Core.Path.{sym, ◌∙◌}
 use native.Mathlib.Omega.{arith}
-use borrow.Author.Rules.{rules}
 use Rattle.numbers.proofs.LeastFactor.{least_factor_answer_below, least_factor_answer_above, least_factor_answer_inside}
 use Rattle.numbers.proofs.factors.least_factor.Goals as goal
 

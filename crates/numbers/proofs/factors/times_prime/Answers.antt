@@ -1,10 +1,9 @@
-use Prim.Native.Nat.{◌-◌, ◌≤◌}
+use Prim.Native.Nat.{◌≤◌}
 use native.Mathlib.Omega.{arith}
 use lib.ListN.{length}
-use borrow.Author.Rules.{rules}
 use Rattle.numbers.specs.Divisors.{divisors_of}
 use Rattle.numbers.proofs.Sums.{same-le}
-use Rattle.numbers.proofs.Merge.{Merging, Turn, merging_start, merging_end, merging-step, merging-next, first-lt, second_lt, count-lt, product_le}
+use Rattle.numbers.proofs.Merge.{Turn, merging_start, merging_end, merging-step, merging-next, first-lt, second_lt, count-lt, product_le}
 use Rattle.numbers.proofs.factors.times_prime.Goals as goal
 use Rattle.numbers.proofs.factors.times_prime.Goals.{In-loop-last}
 

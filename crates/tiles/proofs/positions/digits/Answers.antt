@@ -1,11 +1,10 @@
-use mathlib.Core.Path.{◌≡◌, refl, sym, ap, ◌∙◌}
+use mathlib.Core.Path.{◌≡◌, refl, sym, ◌∙◌}
 use mathlib.Core.List.{List}
-use Prim.Native.Nat.{ℕ, ◌+◌, ◌-◌, ◌/◌, ◌%◌, ◌<◌, ◌≤◌}
+use Prim.Native.Nat.{ℕ, ◌+◌, ◌/◌, ◌%◌, ◌<◌, ◌≤◌}
 use native.Mathlib.Numerals.{add-one}
 use native.Mathlib.Omega.{arith}
-use lib.ListN.{length, get_or, set, drop, replicate, drop_of_length-le}
-use lib.Seq.{drop-cons, sets}
-use borrow.Author.Rules.{rules}
+use lib.ListN.{length, get_or, set, drop_of_length-le}
+use lib.Seq.{drop-cons}
 use Rattle.multipartition.specs.MixedRadix.{digits_up}
 use Rattle.multipartition.proofs.MixedRadix.{length-digits_up}
 use Rattle.layout.specs.Plans.{layout_of, five}

@@ -1,19 +1,12 @@
 -- `digits` meets its contract: storing the digits of what is left from place k on gives the answer at each turn.
-use mathlib.Core.Path.{◌≡◌, refl, sym, ap, ◌∙◌}
+use mathlib.Core.Path.{◌≡◌}
 use mathlib.Core.List.{List}
-use Prim.Native.Nat.{ℕ, ◌+◌, ◌-◌, ◌/◌, ◌%◌, ◌<◌, ◌≤◌}
-use native.Mathlib.Numerals.{add-one}
-use native.Mathlib.Omega.{arith}
-use lib.ListN.{length, get_or, set, drop, replicate, drop_of_length-le}
-use lib.Seq.{drop-cons, sets}
-use borrow.Author.Rules.{rules}
+use Prim.Native.Nat.{ℕ, ◌-◌, ◌≤◌}
+use lib.ListN.{drop, replicate}
+use lib.Seq.{sets}
 use Rattle.multipartition.specs.MixedRadix.{digits_up}
-use Rattle.multipartition.proofs.MixedRadix.{length-digits_up}
-use Rattle.layout.specs.Plans.{layout_of, five}
+use Rattle.layout.specs.Plans.{layout_of}
 use Rattle.layout.specs.declared.Plan.{Plan}
-use Rattle.layout.specs.Shaped.{Shaped}
-use Rattle.layout.proofs.Places.{cuts_length, cut_at}
-use Rattle.tiles.proofs.Coordinates.{stored}
 use Rattle.tiles.proofs.positions.digits.Given as goal
 
 -- the places once all is stored

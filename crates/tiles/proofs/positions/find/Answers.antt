@@ -4,7 +4,6 @@ use Prim.Native.Nat.{◌-◌, ◌<◌, ◌≤◌}
 use native.Mathlib.Omega.{arith}
 use lib.ListN.{length}
 use borrow.Author.Tests.{le-leb, lt-leb}
-use borrow.Author.Rules.{rules}
 use Rattle.multipartition.specs.Plans.{tiles_of}
 use Rattle.multipartition.specs.MixedRadix.{digits_up}
 use Rattle.multipartition.specs.Tiles.{position_of}

@@ -1,7 +1,6 @@
 -- `position_of` meets its contract.
 use mathlib.Core.Path.{ap}
 use mathlib.Core.Bool.{not}
-use borrow.Author.Rules.{rules}
 use Rattle.multipartition.specs.Questions.{position_answer}
 use Rattle.tiles.proofs.Numbering.{fails_shape, passes_shape}
 use Rattle.tiles.proofs.positions.position_of.Goals as goal

@@ -3,7 +3,6 @@ use mathlib.Core.Path.{sym}
 use Prim.Native.Nat.{◌+◌, ◌-◌, ◌*◌, ◌/◌, ◌%◌, ◌≤◌}
 use native.Mathlib.Nat.{mul-le-mul, div-le_self, mod-lt}
 use native.Mathlib.Omega.{arith}
-use borrow.Author.Rules.{rules}
 use Rattle.multipartition.proofs.Slabs.{thin_low, slab_of_thick, slab_of_thin}
 use Rattle.tiles.proofs.slabs.holding.Goals as goal
 

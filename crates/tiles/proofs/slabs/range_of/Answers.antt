@@ -2,7 +2,6 @@
 use native.Mathlib.Numerals.{add-one}
 use native.Mathlib.Omega.{arith}
 use borrow.Author.Tests.{lt-ltb, le-ltb}
-use borrow.Author.Rules.{rules}
 use Rattle.multipartition.specs.Questions.{slab_answer}
 use Rattle.layout.proofs.Shaped.{in_shape_of_shaped}
 use Rattle.tiles.proofs.Numbering.{is_dimension, extent-at, cut_at}

@@ -1,7 +1,6 @@
 -- `slab_holding` meets its contract.
 use native.Mathlib.Omega.{arith}
 use borrow.Author.Tests.{lt-ltb, le-ltb}
-use borrow.Author.Rules.{rules}
 use Rattle.multipartition.specs.Questions.{slab_of_answer}
 use Rattle.layout.proofs.Shaped.{in_shape_of_shaped}
 use Rattle.tiles.proofs.Numbering.{is_dimension, extent-at, cut_at}

@@ -3,7 +3,6 @@ use mathlib.Core.Path.{ap, sym}
 use Prim.Native.Nat.{ℕ, ◌+◌, ◌*◌, ◌/◌, ◌≤◌}
 use native.Mathlib.Nat.{le_of_lt, mul-le-mul_right, div-add-mod, min-eq_left, min-eq_right}
 use native.Mathlib.Omega.{arith}
-use borrow.Author.Rules.{rules}
 use Rattle.multipartition.specs.Slabs.{slab_start}
 use Rattle.tiles.proofs.slabs.start.Goals as goal
 

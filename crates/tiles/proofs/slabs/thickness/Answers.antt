@@ -1,7 +1,6 @@
 -- `thickness` meets its contract: the first n % b slabs have one element more.
 use native.Mathlib.Nat.{div-le_self}
 use native.Mathlib.Omega.{arith}
-use borrow.Author.Rules.{rules}
 use borrow.Author.Tests.{lt-ltb, le-ltb}
 use Rattle.multipartition.proofs.Slabs.{slab_end_is}
 use Rattle.tiles.proofs.slabs.thickness.Goals as goal

@@ -3,7 +3,6 @@ use mathlib.Core.Path.{ap, ◌∙◌}
 use Prim.Native.Nat.{ℕ}
 use lib.Dec.{leb}
 use Rattle.timetable.proofs.Grids.{numbers-flat, other_extents-flat}
-use borrow.Author.Rules.{rules}
 use Rattle.timetable.proofs.extents.others_fit.Goals as goal
 
 pub product_fits-requires : goal.product_fits-requires

@@ -1,6 +1,6 @@
 -- `product_fits` meets its contract.
 use mathlib.Core.Path.{◌≡◌, refl, sym, ap, ap₂, ◌∙◌, subst, subst⁻¹}
-use Prim.Native.Nat.{ℕ, ◌+◌, ◌-◌, ◌*◌, ◌≤◌}
+use Prim.Native.Nat.{ℕ, ◌+◌, ◌*◌, ◌≤◌}
 use native.Mathlib.Nat.{lt_of_le_of_lt, mul-le-mul}
 use native.Mathlib.Omega.{arith}
 use lib.Dec.{lit<}
@@ -8,7 +8,6 @@ use borrow.Author.Tests.{le-leb, lt-leb}
 use lib.ListN.{take}
 use Rattle.numbers.specs.Products.{product}
 use Rattle.layout.proofs.Lists.{product-add-one, product_front}
-use borrow.Author.Rules.{rules}
 use Rattle.timetable.proofs.extents.product_fits.Goals as goal
 
 pub loop-i-init : goal.loop-i-init

@@ -1,6 +1,6 @@
 -- `all_lines` meets its contract.
 use mathlib.Core.Path.{◌≡◌, refl, sym, ap, ap₂, ◌∙◌, subst⁻¹}
-use Prim.Native.Nat.{ℕ, ◌+◌, ◌-◌, ◌≤◌, ◌<◌}
+use Prim.Native.Nat.{ℕ, ◌+◌, ◌≤◌, ◌<◌}
 use native.Mathlib.Nat.{lt_of_le_of_lt, le_trans}
 use native.Mathlib.Omega.{arith}
 use lib.Dec.{lit<}
@@ -10,7 +10,6 @@ use Rattle.numbers.proofs.Sums.{sum-add-one, sum_front-le}
 use Rattle.layout.specs.Plans.{layout_of}
 use Rattle.timetable.specs.Rows.{slab_line, one_each}
 use Rattle.timetable.proofs.Lines.{one_of_lines}
-use borrow.Author.Rules.{rules}
 use Rattle.timetable.proofs.slab_faces.all_lines.Goals as goal
 
 pub stride_along-up-requires : goal.stride_along-up-requires

@@ -1,6 +1,6 @@
 -- `along` meets its contract: the walk stands at the processor t steps on, and the sums are those of the first t slabs.
 use mathlib.Core.Path.{◌≡◌, ap, ◌∙◌}
-use Prim.Native.Nat.{ℕ, ◌-◌, ◌≤◌, ◌<◌}
+use Prim.Native.Nat.{ℕ}
 use native.Mathlib.Nat.{lt_of_le_of_lt, le_trans, le-add_left}
 use mathlib.Core.Bool.{true}
 use native.Mathlib.Omega.{arith}
@@ -8,9 +8,8 @@ use lib.Dec.{lit<}
 use lib.ListN.{get_or}
 use Rattle.walks.proofs.Walking.{next_asked}
 use Rattle.timetable.specs.Rows.{line_of, one_each}
-use Rattle.timetable.proofs.Lines.{Walked, walked_none, walked_faces_fit, walked_tiles_fit, walked_more}
+use Rattle.timetable.proofs.Lines.{walked_none, walked_faces_fit, walked_tiles_fit, walked_more}
 use Rattle.timetable.proofs.Walks.{walk_none, walk_small}
-use borrow.Author.Rules.{rules}
 use Rattle.timetable.proofs.slab_faces.along.Goals as goal
 
 pub loop-t-init : goal.loop-t-init

@@ -1,14 +1,13 @@
 -- `fill_shares` meets its contract: the walk stands at the processor t steps down, and the tables are those of the first t slabs.
 use mathlib.Core.Path.{◌≡◌, ◌∙◌, sym, subst}
 use mathlib.Core.Bool.{false}
-use Prim.Native.Nat.{ℕ, ◌-◌, ◌≤◌, ◌<◌}
+use Prim.Native.Nat.{ℕ, ◌<◌}
 use native.Mathlib.Omega.{arith}
 use lib.ListN.{get_or}
 use Rattle.walks.proofs.Walking.{next_asked}
 use Rattle.timetable.specs.Rows.{RowTable, one_each}
-use Rattle.timetable.proofs.Tables.{Sharing, elements_asked, count_asked, sharing_more}
+use Rattle.timetable.proofs.Tables.{elements_asked, count_asked, sharing_more}
 use Rattle.timetable.proofs.Walks.{walk_none}
-use borrow.Author.Rules.{rules}
 use Rattle.timetable.proofs.slab_faces.fill_shares.Goals as goal
 
 pub loop-t-init : goal.loop-t-init

@@ -1,13 +1,5 @@
-use mathlib.Core.Path.{◌≡◌, ◌∙◌, sym, subst}
-use mathlib.Core.Bool.{false}
-use Prim.Native.Nat.{ℕ, ◌-◌, ◌≤◌, ◌<◌}
-use native.Mathlib.Omega.{arith}
-use lib.ListN.{get_or}
-use Rattle.walks.proofs.Walking.{next_asked}
-use Rattle.timetable.specs.Rows.{RowTable, one_each}
-use Rattle.timetable.proofs.Tables.{Sharing, elements_asked, count_asked, sharing_more}
-use Rattle.timetable.proofs.Walks.{walk_none}
-use borrow.Author.Rules.{rules}
+use Prim.Native.Nat.{◌-◌, ◌≤◌}
+use Rattle.timetable.proofs.Tables.{Sharing}
 use Rattle.timetable.proofs.slab_faces.fill_shares.Given as goal
 
 abbrev pub invariant-loop-t : goal.invariant-loop-t

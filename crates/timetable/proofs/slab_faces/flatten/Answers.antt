@@ -1,7 +1,6 @@
 -- `flatten` meets its contract.
 use mathlib.Core.Path.{refl}
 use Rattle.timetable.specs.Rows.{flattened}
-use borrow.Author.Rules.{rules}
 use Rattle.timetable.proofs.slab_faces.flatten.Goals as goal
 
 pub returns : goal.returns

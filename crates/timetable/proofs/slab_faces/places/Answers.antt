@@ -1,15 +1,13 @@
 use mathlib.Core.Path.{◌≡◌, refl, sym, ◌∙◌}
-use Prim.Native.Nat.{ℕ, ◌-◌, ◌/◌, ◌≤◌, ◌<◌}
+use Prim.Native.Nat.{◌<◌}
 use native.Mathlib.Nat.{div-one}
 use native.Mathlib.Omega.{arith}
-use lib.ListN.{length, get_or, take, length-set}
-use Rattle.numbers.specs.Products.{product}
+use lib.ListN.{length, get_or, length-set}
 use Rattle.layout.specs.Plans.{layout_of}
 use Rattle.layout.proofs.Places.{cuts_length, cut_at}
 use Rattle.walks.proofs.Filling.{set_at}
 use Rattle.timetable.specs.Rows.{places_of}
 use Rattle.timetable.proofs.Rows.{place_at, divided_more}
-use borrow.Author.Rules.{rules}
 use Rattle.timetable.proofs.slab_faces.places.Goals as goal
 
 pub loop-i-init : goal.loop-i-init

@@ -1,16 +1,10 @@
 -- `places` meets its contract: the loop fills the places from the front, dividing by cut after cut.
-use mathlib.Core.Path.{◌≡◌, refl, sym, ◌∙◌}
+use mathlib.Core.Path.{◌≡◌}
 use Prim.Native.Nat.{ℕ, ◌-◌, ◌/◌, ◌≤◌, ◌<◌}
-use native.Mathlib.Nat.{div-one}
-use native.Mathlib.Omega.{arith}
-use lib.ListN.{length, get_or, take, length-set}
+use lib.ListN.{length, get_or, take}
 use Rattle.numbers.specs.Products.{product}
 use Rattle.layout.specs.Plans.{layout_of}
-use Rattle.layout.proofs.Places.{cuts_length, cut_at}
-use Rattle.walks.proofs.Filling.{set_at}
 use Rattle.timetable.specs.Rows.{places_of}
-use Rattle.timetable.proofs.Rows.{place_at, divided_more}
-use borrow.Author.Rules.{rules}
 use Rattle.timetable.proofs.slab_faces.places.Given as goal
 
 abbrev pub invariant-loop-i : goal.invariant-loop-i

@@ -4,7 +4,6 @@ use native.Mathlib.Omega.{arith}
 use Rattle.timetable.specs.Rows.{one_each}
 use Rattle.timetable.proofs.Tables.{table_none}
 use Rattle.timetable.proofs.Tallies.{flat_shape, tally_asked, tally_faces, count_tally_asked, tally_tiles}
-use borrow.Author.Rules.{rules}
 use Rattle.timetable.proofs.slab_faces.tally_in.Goals as goal
 
 pub fill_shares-requires : goal.fill_shares-requires

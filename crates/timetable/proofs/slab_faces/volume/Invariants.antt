@@ -1,14 +1,9 @@
-use mathlib.Core.Path.{◌≡◌, refl, sym, ap, ap₂, ◌∙◌, subst⁻¹}
-use Prim.Native.Nat.{ℕ, ◌+◌, ◌-◌, ◌*◌, ◌≤◌, ◌<◌}
-use native.Mathlib.Omega.{arith}
+use mathlib.Core.Path.{◌≡◌}
+use Prim.Native.Nat.{◌-◌, ◌≤◌}
 use lib.ListN.{take}
 use Rattle.numbers.specs.Products.{product}
 use Rattle.layout.specs.Plans.{layout_of}
 use Rattle.timetable.specs.Faces.{thicknesses}
-use native.Mathlib.Nat.{lt_of_le_of_lt}
-use lib.Dec.{lit<}
-use Rattle.timetable.proofs.Lines.{sides, sides_more, sides_fit, sides_all}
-use borrow.Author.Rules.{rules}
 use Rattle.timetable.proofs.slab_faces.volume.Given as goal
 
 abbrev pub invariant-loop-i : goal.invariant-loop-i

@@ -1,8 +1,5 @@
 -- `widest` meets its contract.
-use Prim.Native.Nat.{◌-◌, ◌≤◌, ◌<◌}
 use native.Mathlib.Omega.{arith}
-use mathlib.Core.Logic.{◌≢◌}
-use borrow.Author.Rules.{rules}
 use Rattle.timetable.proofs.slab_faces.widest.Goals as goal
 
 pub loop-i-init : goal.loop-i-init

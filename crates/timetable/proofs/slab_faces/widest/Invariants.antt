@@ -1,7 +1,5 @@
 use Prim.Native.Nat.{◌-◌, ◌≤◌, ◌<◌}
-use native.Mathlib.Omega.{arith}
 use mathlib.Core.Logic.{◌≢◌}
-use borrow.Author.Rules.{rules}
 use Rattle.timetable.proofs.slab_faces.widest.Given as goal
 
 abbrev pub invariant-loop-i : goal.invariant-loop-i

@@ -1,12 +1,8 @@
-use mathlib.Core.Path.{◌≡◌, sym}
+use mathlib.Core.Path.{◌≡◌}
 use Prim.Native.Nat.{◌≤◌, ◌-◌}
-use native.Mathlib.Omega.{arith}
 use lib.Dec.{ltb}
 use lib.ListN.{get_or}
-use borrow.Author.Rules.{rules}
 use Rattle.multipartition.specs.Lists.{all_below}
-use Rattle.layout.proofs.Lists.{all_none, all-add-one}
-use Rattle.tiles.proofs.Coordinates.{inside_by_places}
 use Rattle.tiles.proofs.positions.Position.in_grid.Given as goal
 
 abbrev pub invariant-loop-k : goal.invariant-loop-k

@@ -3,7 +3,6 @@ use mathlib.Core.Path.{ap}
 use mathlib.Core.Bool.{not}
 use mathlib.Core.Path.{sym, ◌∙◌}
 use borrow.Author.Tests.{not-true, not-false}
-use borrow.Author.Rules.{rules}
 use Rattle.multipartition.specs.Tiles.{tile_number}
 use Rattle.multipartition.specs.Questions.{number_answer}
 use Rattle.layout.proofs.Positions.{in_grid_lem}

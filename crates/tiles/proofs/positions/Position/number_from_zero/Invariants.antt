@@ -1,20 +1,12 @@
 -- `Position::number_from_zero` meets its contract: after each turn the number is that of the coordinates from place k on.
-use mathlib.Core.Path.{◌≡◌, refl}
-use Prim.Native.Nat.{ℕ, zero, suc, ◌+◌, ◌-◌, ◌*◌, ◌<◌, ◌≤◌}
-use native.Mathlib.Nat.{le_of_eq}
-use native.Mathlib.Omega.{arith}
-use lib.ListN.{get_or, drop, drop_of_length-le}
-use lib.Seq.{drop-cons}
-use borrow.Author.Rules.{rules}
+use mathlib.Core.Path.{◌≡◌}
+use Prim.Native.Nat.{ℕ, ◌≤◌}
+use lib.ListN.{drop}
 use Rattle.multipartition.specs.MixedRadix.{number_up}
 use Rattle.layout.specs.declared.Plan.{Plan}
 use Rattle.layout.specs.Plans.{layout_of}
-use Rattle.layout.specs.Positions.{InGrid}
-use Rattle.layout.specs.Shaped.{Shaped}
-use Rattle.layout.proofs.Places.{cuts_length, cut_at}
 use Rattle.tiles.specs.declared.positions.Position.{Position}
 use Rattle.tiles.specs.Positions.{coordinates}
-use Rattle.tiles.proofs.Coordinates.{grid-at, number_small}
 use Rattle.tiles.proofs.positions.Position.number_from_zero.Given as goal
 
 -- the number of the coordinates from place k on

@@ -2,7 +2,6 @@
 use Prim.Native.Nat.{◌≤◌}
 use native.Mathlib.Omega.{arith}
 use lib.ListN.{length}
-use borrow.Author.Rules.{rules}
 use Rattle.layout.specs.Plans.{layout_of}
 use Rattle.tiles.specs.Positions.{coordinates}
 use Rattle.tiles.proofs.Coordinates.{grid_d, grid-at}

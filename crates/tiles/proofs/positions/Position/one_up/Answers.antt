@@ -3,7 +3,6 @@ use Prim.Native.Nat.{◌≤◌}
 use native.Mathlib.Numerals.{add-one}
 use native.Mathlib.Omega.{arith}
 use lib.ListN.{length}
-use borrow.Author.Rules.{rules}
 use Rattle.layout.specs.Plans.{layout_of}
 use Rattle.layout.proofs.Places.{cut_at}
 use Rattle.tiles.specs.Positions.{coordinates}

@@ -1,11 +1,10 @@
 -- `Position::place_with` meets its contract.
-use mathlib.Core.Path.{◌≡◌, sym, ◌∙◌}
+use mathlib.Core.Path.{sym, ◌∙◌}
 use native.Mathlib.Omega.{arith}
-use lib.ListN.{get_or, set, length-set, get_or-eq_default}
+use lib.ListN.{set, length-set, get_or-eq_default}
 use lib.Seq.{get_or-set_same, get_or-set_other}
 use Rattle.tiles.specs.Positions.{coordinates}
 use Rattle.tiles.proofs.Coordinates.{length-coordinates, coordinate-at}
-use borrow.Author.Rules.{rules}
 use Rattle.tiles.proofs.positions.Position.place_with.Goals as goal
 
 pub returns-then-i-k : goal.returns-then-i-k

@@ -1,7 +1,6 @@
 -- `Position::step` meets its contract.
 use mathlib.Core.Path.{ap}
 use mathlib.Core.Bool.{not}
-use borrow.Author.Rules.{rules}
 use Rattle.multipartition.specs.Questions.{step_answer}
 use Rattle.layout.proofs.Shaped.{in_shape_of_shaped}
 use Rattle.tiles.proofs.Numbering.{fails_shape, passes_shape, fails_dimension, passes_dimension}

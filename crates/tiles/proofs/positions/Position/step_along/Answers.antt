@@ -5,7 +5,6 @@ use mathlib.Core.Path.{◌≡◌, sym, ◌∙◌}
 use Prim.Native.Nat.{◌+◌, ◌-◌}
 use native.Mathlib.Omega.{arith}
 use borrow.Author.Tests.{not-true, not-false}
-use borrow.Author.Rules.{rules}
 use Rattle.multipartition.specs.Questions.{step_answer}
 use Rattle.layout.proofs.Positions.{in_grid_lem}
 use Rattle.layout.proofs.Shaped.{in_shape_of_shaped}

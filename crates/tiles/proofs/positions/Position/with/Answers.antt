@@ -2,7 +2,6 @@
 use lib.ListN.{set, length-set}
 use Rattle.tiles.specs.Positions.{coordinates}
 use Rattle.tiles.proofs.Coordinates.{length-coordinates, five_numbers}
-use borrow.Author.Rules.{rules}
 use Rattle.tiles.proofs.positions.Position.with.Goals as goal
 
 pub returns : goal.returns
