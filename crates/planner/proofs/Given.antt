@@ -1,6 +1,6 @@
 -- The thicknesses of a job by the list given: the tests of the code on the list are those of the definition on the thicknesses.
-use mathlib.Core.Path.{◌≡◌, refl, sym, ap}
-use mathlib.Core.Bool.{Bool, not, ◌&&◌, ◌||◌}
+use mathlib.Core.Path.{◌≡◌, refl, sym, ap, ◌∙◌}
+use mathlib.Core.Bool.{Bool, false, not, ◌&&◌, ◌||◌}
 use mathlib.Core.List.{List, [], ◌∷◌}
 use mathlib.Core.Logic.{⊎_elim}
 use Prim.Native.Nat.{ℕ, suc, ◌≤◌}
@@ -11,7 +11,7 @@ use lib.ListN.{length, replicate, length-replicate}
 use Rattle.multipartition.specs.Lists.{first_failing}
 use Rattle.multipartition.specs.Plans.{least_of, job_with}
 use Rattle.multipartition.specs.Jobs.{first_zero, lengths_check}
-use Rattle.multipartition.proofs.Jobs.{first_zero-ones, least_many_iff}
+use Rattle.multipartition.proofs.Jobs.{first_zero-ones, least_many_iff, lengths_of_check}
 
 -- neither empty nor d long
 other_length : (d : ℕ) (given : List ℕ) → (not (eqb (length given) 0) && not (eqb (length given) d)) ≡ not (eqb (length (least_of d given)) d)
@@ -24,6 +24,15 @@ pub lengths_test : (p d : ℕ) (extents weights given : List ℕ)
     ≡ (lengths_check (job_with p d extents weights given)).fails
 lengths_test p d extents weights given =
     ap (λ (b : Bool). not (eqb (length extents) d) || not (eqb (length weights) d) || b) (other_length d given)
+
+-- once line 3 has passed
+pub checked : (p d : ℕ) (extents weights given : List ℕ) → (not (eqb (length extents) d) || not (eqb (length weights) d) || (not (eqb (length given) 0) && not (eqb (length given) d))) ≡ false
+    → (lengths_check (job_with p d extents weights given)).fails ≡ false
+checked p d extents weights given e = sym (lengths_test p d extents weights given) ∙ e
+
+pub lengths : (p d : ℕ) (extents weights given : List ℕ) → (not (eqb (length extents) d) || not (eqb (length weights) d) || (not (eqb (length given) 0) && not (eqb (length given) d))) ≡ false
+    → (length extents ≡ d) × (length weights ≡ d) × (length (least_of d given) ≡ d)
+lengths p d extents weights given e = lengths_of_check (job_with p d extents weights given) (checked p d extents weights given e)
 
 pub few_given : (d : ℕ) (given : List ℕ) → d ≤ 5 → length (least_of d given) ≡ d → length given ≤ 5
 few_given d given few many = ⊎_elim (λ e. omega arith) (λ e. omega arith) ((least_many_iff d given).0 many)

@@ -14,12 +14,11 @@ few_questions : (p count : ℕ) (of : List ℕ) → p ≤ 4096 → Listed (divis
 few_questions p count of high listed = let few : count ≤ 128 = omega (arith, chosen.listed-length p count of high listed) in mul-le-mul few few
 
 pub slice_bounds-of-end : goal.slice_bounds-of-end
-slice_bounds-of-end c = omega (arith, chosen.listed-length c.args.p c.divisors-found.result.count c.divisors-found.result.of c.requires.p_high c.divisors-found.ensures)
+slice_bounds-of-end c = omega (arith, c.requires.d_high, chosen.listed-length c.args.p c.divisors-found.result.count c.divisors-found.result.of c.requires.p_high c.divisors-found.ensures)
 
 pub slice_bounds-without_memory-end : goal.slice_bounds-without_memory-end
 slice_bounds-without_memory-end c =
-    let found = c.divisors-found.result in
-    sym (length-take-le found.count found.of (omega (arith, chosen.listed-length c.args.p c.divisors-found.result.count c.divisors-found.result.of c.requires.p_high c.divisors-found.ensures)))
+    sym (length-take-le _ c.divisors-found.result.of (omega (arith, c.requires.d_high, chosen.listed-length c.args.p c.divisors-found.result.count c.divisors-found.result.of c.requires.p_high c.divisors-found.ensures)))
 
 pub without_memory-requires : goal.without_memory-requires
 without_memory-requires c =
