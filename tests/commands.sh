@@ -117,7 +117,7 @@ test_printing_and_reading() {
     answers 'a directory for an input' 2 /dev/null
     says 'a directory for an input' "$program: the input could not be read"
 
-    # The program by itself has no exit status, and says on standard error what failed.
+    # The program by itself ends with status 0, and says on standard error what failed.
     : >"$out"
     status=0
     with_arguments "target/bin/$program" <"$given" >/dev/full 2>"$err"
