@@ -217,7 +217,7 @@ module _ (extents cuts : List ℕ) (k j c : ℕ) (e : length extents ≡ length 
   flat_lengths = length-set (set extents k 1) j 1 ∙ slab_lengths ∙ sym (length-set (set cuts k 1) j 1)
 
   module _ (owner : List ℕ → ℕ) (v q : ℕ) (entry line : ℕ → ℕ) (lv : v < get_or cuts k 0)
-      (on_Row : (y : List ℕ) → Inside cuts y → get_or y j 0 ≡ 0
+      (on_row : (y : List ℕ) → Inside cuts y → get_or y j 0 ≡ 0
       → sum (get_or cuts j 0) (λ t. thickness (get_or extents j 0) (get_or cuts j 0) t * same (owner (set y j t)) q) ≡ entry (owner y))
       (on_line : (y : List ℕ) → Inside cuts y → get_or y c 0 ≡ 0 → ((t : ℕ) → t < get_or (flat k j cuts) c 0 → Inside cuts (set y c t))
       → sum (get_or (flat k j cuts) c 0) (λ t. thickness (get_or (flat k j extents) c 0) (get_or (flat k j cuts) c 0) t * entry (owner (set y c t))) ≡ line (owner y)) where
@@ -240,7 +240,7 @@ module _ (extents cuts : List ℕ) (k j c : ℕ) (e : length extents ≡ length 
         ap₂ (λ (n b : ℕ). sum b (λ t. thickness n b t * same (owner (set (set x j t) k v)) q)) (get_or-set_other extents k j 1 0 j-apart) (get_or-set_other cuts k j 1 0 j-apart)
         ∙ sum_cong (get_or cuts j 0) (λ t l.
         ap (λ (y : List ℕ). thickness (get_or extents j 0) (get_or cuts j 0) t * same (owner y) q) (set_comm x j k t v j-apart))
-        ∙ on_Row (set x k v) (raised x inside) (get_or-set_other x k j v 0 j-apart ∙ flat_place (set cuts k 1) x j in_slab inside)
+        ∙ on_row (set x k v) (raised x inside) (get_or-set_other x k j v 0 j-apart ∙ flat_place (set cuts k 1) x j in_slab inside)
 
     lines : (x : List ℕ) → Inside (set flat_cuts c 1) x
         → sum (get_or flat_cuts c 0) (λ t. thickness (get_or flat_extents c 0) (get_or flat_cuts c 0) t * entry (owner (set (set x c t) k v)))

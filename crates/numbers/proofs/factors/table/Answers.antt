@@ -1,5 +1,5 @@
 -- `table` meets its contract: the whole table passes one computed test, so each entry is a least factor,
--- and there is only one. The constant's own list is read off the proof state; it is not written out again.
+-- and there is only one. The constant is cited by its name.
 use mathlib.Core.Path.{◌≡◌, refl}
 use mathlib.Core.Bool.{true}
 use mathlib.Core.List.{List}
