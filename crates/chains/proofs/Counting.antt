@@ -22,6 +22,9 @@ use Rattle.layout.specs.Plans.{layout_of}
 use Rattle.layout.specs.Shaped.{entry_of, Shaped}
 use Rattle.layout.proofs.Lists.{product-add-one, product_pos, product_front}
 use Rattle.layout.proofs.Places.{cut_at, cuts_length, modulus-at, moduli_length, entry_at_lem}
+use borrow.Rule.Slice.PartMut.{put_mid}
+use Rattle.std.proofs.lemmas.Grind.{elements}
+use Rattle.chains.proofs.Filling.{put_inside, put_before, put_after}
 use Rattle.chains.proofs.Merging.{repeated, one_below, step_of_steps, step_injective}
 use Rattle.chains.specs.Walks.{block_size, lower, Tables, Led, Tabled, Continues, Collected, Grouped, Counted}
 
@@ -62,37 +65,6 @@ module _ (plan : Plan) (s : Shaped plan) where
 
 -- ---- a table
 
--- q places of table c are filled
-pub record Partly (plan : Plan) (k c q : ℕ) (downs₀ downs : List ℕ) : Type 0 where
-  pub long : length downs ≡ 20480
-  pub there : (r : ℕ) → r < q → lower downs c r ≡ next_owner (layout_of plan).moduli (layout_of plan).matrix k false r
-  pub others : (j r : ℕ) → j ≢ c → r < plan.p → lower downs j r ≡ lower downs₀ j r
-
-module _ (plan : Plan) (k c : ℕ) (downs₀ : List ℕ) where
-  pub partly_start : length downs₀ ≡ 20480 → Partly plan k c 0 downs₀ downs₀
-  partly_start long = record { long = long; there = λ r l. absurd (omega arith); others = λ j r n l. refl }
-
-  pub partly_more : (q : ℕ) (downs : List ℕ) → c < 5 → q < plan.p → plan.p ≤ 4096 → Partly plan k c q downs₀ downs
-      → Partly plan k c (q + 1) downs₀ (set downs (c * 4096 + q) (next_owner (layout_of plan).moduli (layout_of plan).matrix k false q))
-  partly_more q downs lc lq few t =
-      let x : ℕ = next_owner (layout_of plan).moduli (layout_of plan).matrix k false q in
-      record {
-        long = length-set downs (c * 4096 + q) x ∙ t.long;
-        there = λ r l.
-            let upto : r ≤ q = omega arith in
-            ⊎_elim
-            (λ (same : r ≡ q). rw same (get_or-set_same downs (c * 4096 + q) x 0 (omega (arith, t.long))))
-            (λ (below : r < q). get_or-set_other downs (c * 4096 + q) (c * 4096 + r) x 0 (λ same. absurd (omega arith)) ∙ t.there r below)
-            (eq-or-lt_of_le upto);
-        others = λ j r n l.
-            get_or-set_other downs (c * 4096 + q) (j * 4096 + r) x 0 (λ same. n (let e : j ≡ c = omega arith in e)) ∙ t.others j r n l;
-      }
-
-  pub partly_end : (q : ℕ) (downs : List ℕ) → plan.p ≤ q → Partly plan k c q downs₀ downs → Tabled plan k c downs₀ downs
-  partly_end q downs all t = record { long = t.long; there = λ r l. t.there r (omega arith); others = t.others }
-
--- ---- counts with their tables
-
 -- two places
 by_places : {X : Type 0} (j c : ℕ) → (j < c → X) → (j ≡ c → X) → (c < j → X) → X
 by_places {X} j c below same above = go (dec_lt j c)
@@ -100,6 +72,23 @@ by_places {X} j c below same above = go (dec_lt j c)
     go : Dec (j < c) → X
     go (yes l) = below l
     go (no n) = ⊎_elim (λ e. same (sym e)) above (eq-or-lt_of_le (let upto : c ≤ j = omega (arith, n) in upto))
+
+-- table c gets the neighbours of all p processors
+pub tabled_made : (plan : Plan) (k c n : ℕ) (downs below : List ℕ) → c < 5 → plan.p ≤ 4096 → length downs ≡ 20480 → n ≡ plan.p → length below ≡ plan.p
+    → ((r : ℕ) → r < plan.p → get_or below r 0 ≡ next_owner (layout_of plan).moduli (layout_of plan).matrix k false r)
+    → Tabled plan k c downs (put_mid (c * 4096) n downs below)
+tabled_made plan k c n downs below lc few long all many each =
+    record {
+      long = grind (arith, elements);
+      there = λ q l. put_inside (c * 4096) n downs below q (omega arith) (omega arith) ∙ each q l;
+      others = λ j q other l.
+          by_places j c
+          (λ before. put_before (c * 4096) n downs below (j * 4096 + q) (omega arith) (omega arith))
+          (λ same. absurd (other same))
+          (λ after. put_after (c * 4096) n downs below (j * 4096 + q) (omega arith) (omega arith) (omega arith));
+    }
+
+-- ---- counts with their tables
 
 -- along a place with one tile no step is taken
 no_step : (x n : ℕ) → n ≡ 1 → 1 ≤ x % n → ⊥

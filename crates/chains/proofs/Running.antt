@@ -1,4 +1,5 @@
 -- Runs: several tiles of a line, whose owners are known one by one, visited at once.
+use mathlib.Core.Bool.{Bool, true, false}
 use mathlib.Core.Path.{◌≡◌, refl, sym, ap, ◌∙◌, subst}
 use mathlib.Core.List.{List}
 use mathlib.Core.Logic.{⊎_elim}
@@ -9,19 +10,19 @@ use lib.ListN.{length, get_or, set}
 use lib.Seq.{get_or-set_same, get_or-set_other}
 use Rattle.multipartition.specs.Chains.{Stage}
 use Rattle.chains.specs.Stages.{Onward}
-use Rattle.chains.specs.Walks.{BlockTop, lower, Falls, Rises, Tables, Led, Run, Walks}
+use Rattle.chains.specs.Walks.{BlockTop, lower, along, Reaches, nth, Falls, Rises, Runs, Tables, Led, Run, Walks}
 use Rattle.chains.proofs.Walking.{line_size, top_coordinate, Across, across_start, across_within, across_end}
 
 -- ---- a run, tile by tile
 
--- i tiles of a run of `count` are still to be visited, the highest of them `tile`
-pub record Visiting (who : ℕ → ℕ) (top count i tile : ℕ) (heads₀ nexts₀ heads nexts : List ℕ) : Type 0 where
-  pub few : i ≤ count
-  pub tile_is : tile ≡ top - count + i
+-- j tiles of a run of `count` are visited, and the next one is `tile`
+pub record Visiting (who : ℕ → ℕ) (top count j tile : ℕ) (heads₀ nexts₀ heads nexts : List ℕ) : Type 0 where
+  pub few : j ≤ count
+  pub tile_is : tile ≡ top - j
   pub onward : Onward (λ own. (j : ℕ) → j < count → own (top - j) ≡ who j) top tile heads₀ nexts₀ heads nexts
 
-module _ (who : ℕ → ℕ) (top count : ℕ) (heads₀ nexts₀ : List ℕ) (room : count ≤ top) where
-  pub visiting_start : Visiting who top count count top heads₀ nexts₀ heads₀ nexts₀
+module _ (who : ℕ → ℕ) (top count : ℕ) (heads₀ nexts₀ : List ℕ) where
+  pub visiting_start : Visiting who top count 0 top heads₀ nexts₀ heads₀ nexts₀
   visiting_start =
       record {
         few = omega arith;
@@ -29,14 +30,14 @@ module _ (who : ℕ → ℕ) (top count : ℕ) (heads₀ nexts₀ : List ℕ) (r
         onward = record { heads_kept = refl; nexts_kept = refl; stages = λ own lent owners stage. stage };
       }
 
-  module _ (i tile : ℕ) (heads nexts : List ℕ) (v : Visiting who top count i tile heads₀ nexts₀ heads nexts) where
-    -- the highest is visited
-    pub visiting-step : (owner at : ℕ) (heads' nexts' : List ℕ) → 1 ≤ i → owner ≡ who (count - i) → tile ≡ at + 1
+  module _ (j tile : ℕ) (heads nexts : List ℕ) (v : Visiting who top count j tile heads₀ nexts₀ heads nexts) where
+    -- the next one is visited
+    pub visiting-step : (owner at : ℕ) (heads' nexts' : List ℕ) → j < count → owner ≡ who j → tile ≡ at + 1
         → Onward (λ own. own tile ≡ owner) tile at heads nexts heads' nexts'
-        → Visiting who top count (i - 1) (tile - 1) heads₀ nexts₀ heads' nexts'
-    visiting-step owner at heads' nexts' low e at-is w =
+        → Visiting who top count (j + 1) (tile - 1) heads₀ nexts₀ heads' nexts'
+    visiting-step owner at heads' nexts' more e at-is w =
         record {
-          few = omega (arith, v.few);
+          few = omega arith;
           tile_is = omega (arith, v.tile_is);
           onward =
               record {
@@ -52,17 +53,15 @@ module _ (who : ℕ → ℕ) (top count : ℕ) (heads₀ nexts₀ : List ℕ) (r
         at_next = omega arith
 
         owned : (own : ℕ → ℕ) → ((j : ℕ) → j < count → own (top - j) ≡ who j) → own tile ≡ owner
-        owned own owners =
-            let there : tile ≡ top - (count - i) = omega (arith, v.few, v.tile_is) in
-            ap own there ∙ owners (count - i) (omega (arith, v.few)) ∙ sym e
+        owned own owners = ap own v.tile_is ∙ owners j more ∙ sym e
 
         next : (own : ℕ → ℕ) (lent : List ℕ) → own tile ≡ owner → Stage own (length nexts₀) (length heads₀) tile lent heads nexts
             → Stage own (length nexts₀) (length heads₀) at lent heads' nexts'
         next own lent = rw (← v.onward.heads_kept, ← v.onward.nexts_kept) (λ mine stage. w.stages own lent mine stage)
 
     -- all are visited
-    pub visiting_end : i ≤ 0 → Run who top count heads₀ nexts₀ heads nexts
-    visiting_end none = let all : tile ≡ top - count = omega (arith, v.tile_is) in rw all at v.onward
+    pub visiting_end : count ≤ j → Run who top count heads₀ nexts₀ heads nexts
+    visiting_end none = let all : tile ≡ top - count = omega (arith, v.tile_is, v.few) in rw all at v.onward
 
 -- one tile is a run
 pub run-one : (q tile at : ℕ) (heads nexts heads' nexts' : List ℕ) → tile ≡ at + 1 → Onward (λ own. own tile ≡ q) tile at heads nexts heads' nexts'
@@ -97,13 +96,10 @@ module _ (counts downs : List ℕ) (q stop top : ℕ) (heads₀ nexts₀ : List 
 
   pub running_start : q < length heads₀ → Running counts downs q stop top top q heads₀ nexts₀ heads₀ nexts₀
   running_start m =
-      let all : get_or counts 0 0 ≡ top - (top - get_or counts 0 0) = omega (arith, running_room) in
       record {
         above = omega arith;
         high = omega arith;
-        across =
-            subst (λ (left : ℕ). Across counts downs 0 q stop top top left q heads₀ nexts₀ heads₀ nexts₀) all
-            (across_start counts downs 0 (omega arith) q stop top heads₀ nexts₀ t b m);
+        across = across_start counts downs 0 (omega arith) q stop top heads₀ nexts₀ t (top - (top - get_or counts 0 0)) (omega (arith, running_room)) b m;
       }
 
   module _ (last tile here : ℕ) (heads nexts : List ℕ) (last_is : last ≡ max stop (top - get_or counts 0 0))
@@ -206,6 +202,35 @@ module _ (counts downs : List ℕ) (q stop top : ℕ) (heads₀ nexts₀ : List 
         across_end counts downs 0 (omega arith) q stop top heads₀ nexts₀ t tile _ here heads nexts a.across
         (omega (arith, none, last_is, a.above, line_size (length heads₀) counts downs t))
 
+-- ---- runs in both directions
+
+-- what a table of runs says of a processor
+abbrev pub Follows : Bool → ℕ → List ℕ → ℕ → ℕ → Type 0
+Follows true p downs q run = Rises p downs q run
+Follows false p downs q run = Falls downs q run
+
+-- what a table of runs says
+pub runs_long : (rising : Bool) (p : ℕ) (downs runs : List ℕ) → Runs rising p downs runs → length runs ≡ 4096
+runs_long true p downs runs r = r.long
+runs_long false p downs runs r = r.long
+
+pub runs_reach : (rising : Bool) (p : ℕ) (downs runs : List ℕ) → Runs rising p downs runs → (q j : ℕ) → q < p → j ≤ get_or runs q 0 → Reaches rising p q j
+runs_reach true p downs runs r q j l m = omega (arith, (r.at q l).few)
+runs_reach false p downs runs r q j l m = (omega (arith, (r.at q l).few), l)
+
+pub runs_steps : (rising : Bool) (p : ℕ) (downs runs : List ℕ) → Runs rising p downs runs → (q j : ℕ) → q < p → j < get_or runs q 0
+    → lower downs 0 (along rising q j) ≡ along rising q (j + 1)
+runs_steps true p downs runs r q j l m = (r.at q l).steps j m
+runs_steps false p downs runs r q j l m = (r.at q l).steps j m
+
+pub along_none : (rising : Bool) (q : ℕ) → along rising q 0 ≡ q
+along_none true q = omega arith
+along_none false q = omega arith
+
+pub along_below : (rising : Bool) (p q j : ℕ) → Reaches rising p q j → along rising q j < p
+along_below true p q j r = r
+along_below false p q j r = omega (arith, r.0, r.1)
+
 -- ---- tables of runs
 
 -- a falling run is one more than that of the processor before, or none
@@ -247,11 +272,50 @@ rises_next p downs q run more here below after longer =
         let to : q + 1 + (i + 1) ≡ q + (suc i + 1) = omega arith in
         rw (from, to) at ((after (omega (arith, l.0))).steps i (omega (arith, l.1)))
 
--- what holds of the places from i + 1 on, and of what is stored at i, holds of the places from i on
-pub places_down : (P : ℕ → ℕ → Type 0) (xs : List ℕ) (p i x : ℕ) → i < length xs → ((j : ℕ) → i + 1 ≤ j → j < p → P j (get_or xs j 0)) → P i x
-    → (j : ℕ) → i ≤ j → j < p → P j (get_or (set xs i x) j 0)
-places_down P xs p i x l h new j low m =
+-- ---- a table of runs, filled from the processor at which the runs end
+
+pub nth_below : (rising : Bool) (p i : ℕ) → i < p → nth rising p i < p
+nth_below true p i l = omega arith
+nth_below false p i l = l
+
+nth_other : (rising : Bool) (p i j : ℕ) → i < p → j < i → nth rising p j ≡ nth rising p i → ⊥
+nth_other true p i j l m e = absurd (omega arith)
+nth_other false p i j l m e = absurd (omega arith)
+
+-- a run has no more steps than processors before it
+pub follows_short : (rising : Bool) (p : ℕ) (downs : List ℕ) (i run : ℕ) → i < p → Follows rising p downs (nth rising p i) run → run ≤ i + 1
+follows_short true p downs i run l r = omega (arith, r.few)
+follows_short false p downs i run l r = omega (arith, r.few)
+
+-- the run of the next processor, by that of the one before
+pub follows-next : (rising : Bool) (p : ℕ) (downs : List ℕ) (i run more : ℕ) → i < p → lower downs 0 (nth rising p i) < p
+    → (1 ≤ i → Follows rising p downs (nth rising p (i - 1)) run)
+    → (1 ≤ more → Reaches rising 4097 (nth rising p i) 1 × (lower downs 0 (nth rising p i) ≡ along rising (nth rising p i) 1) × (more ≡ run + 1))
+    → Follows rising p downs (nth rising p i) more
+follows-next true p downs i run more l below before longer =
+    rises_next p downs (p - 1 - i) run more (omega arith) below
+    (λ room. let e : p - 1 - (i - 1) ≡ p - 1 - i + 1 = omega arith in subst (λ (n : ℕ). Rises p downs n run) e (before (omega arith)))
+    (λ some. let h = longer some in (h.1, h.2))
+follows-next false p downs i run more l below before longer =
+    falls-next downs i run more before (λ some. let h = longer some in (omega (arith, h.0.0, h.1), h.2))
+
+pub runs_more : (rising : Bool) (p : ℕ) (downs runs : List ℕ) (i x : ℕ) → i < p → p ≤ length runs
+    → ((j : ℕ) → j < i → Follows rising p downs (nth rising p j) (get_or runs (nth rising p j) 0)) → Follows rising p downs (nth rising p i) x
+    → (j : ℕ) → j < i + 1 → Follows rising p downs (nth rising p j) (get_or (set runs (nth rising p i) x) (nth rising p j) 0)
+runs_more rising p downs runs i x l long old new j m =
+    let upto : j ≤ i = omega arith in
     ⊎_elim
-    (λ (same : i ≡ j). rw (← same, get_or-set_same xs i x 0 l) new)
-    (λ (above : i < j). rw (get_or-set_other xs i j x 0 (λ same. absurd (omega arith))) (h j (omega arith) m))
-    (eq-or-lt_of_le low)
+    (λ (same : j ≡ i). rw (same, get_or-set_same runs (nth rising p i) x 0 (omega (arith, nth_below rising p i l, long))) new)
+    (λ (before : j < i). rw (get_or-set_other runs (nth rising p i) (nth rising p j) x 0 (nth_other rising p i j l before)) (old j before))
+    (eq-or-lt_of_le upto)
+
+pub runs_made : (rising : Bool) (p : ℕ) (downs runs : List ℕ) (i : ℕ) → p ≤ i → length runs ≡ 4096
+    → ((j : ℕ) → j < i → Follows rising p downs (nth rising p j) (get_or runs (nth rising p j) 0)) → Runs rising p downs runs
+runs_made true p downs runs i all long each =
+    record {
+      long = long;
+      at = λ q m.
+          let e : p - 1 - (p - 1 - q) ≡ q = omega arith in
+          subst (λ (n : ℕ). Rises p downs n (get_or runs n 0)) e (each (p - 1 - q) (omega arith));
+    }
+runs_made false p downs runs i all long each = record { long = long; at = λ q m. each q (omega arith) }

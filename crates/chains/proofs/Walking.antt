@@ -22,6 +22,10 @@ size-next p counts downs t k l = product-add-one counts k (omega (arith, t.five)
 pub line_size : (p : ℕ) (counts downs : List ℕ) → Tables p counts downs → block_size counts 1 ≡ get_or counts 0 0
 line_size p counts downs t = size-next p counts downs t 0 (omega arith) ∙ omega arith
 
+-- tables for as many processors as the first list has places
+pub lent : (p : ℕ) (counts downs heads : List ℕ) → Tables p counts downs → length heads ≡ p → Tables (length heads) counts downs
+lent p counts downs heads t many = subst⁻¹ (λ (n : ℕ). Tables n counts downs) many t
+
 -- the coordinate of the tile at the top of a block
 pub top_coordinate : (m b left S : ℕ) → 1 ≤ S → 1 ≤ left → left ≤ b → ((m * b + left) * S - 1) / S % b ≡ left - 1
 top_coordinate m b left S some low high =
@@ -63,13 +67,13 @@ module _ (counts downs : List ℕ) (k : ℕ) (l : k < 5) (q stop top : ℕ) (hea
   top_is : (b : BlockTop counts (k + 1) (length nexts₀) top) → top ≡ (b.block * count + count) * S
   top_is b = b.is ∙ ap (λ (n : ℕ). suc b.block * n) (size-next (length heads₀) counts downs t k l) ∙ omega arith
 
-  pub across_start : BlockTop counts (k + 1) (length nexts₀) top → q < length heads₀
-      → Across counts downs k q stop top top count q heads₀ nexts₀ heads₀ nexts₀
-  across_start b m =
+  pub across_start : (left : ℕ) → left ≡ count → BlockTop counts (k + 1) (length nexts₀) top → q < length heads₀
+      → Across counts downs k q stop top top left q heads₀ nexts₀ heads₀ nexts₀
+  across_start left all b m =
       record {
         whole = b;
         few = omega arith;
-        tile_is = top_is b;
+        tile_is = rw all (top_is b);
         at_below = m;
         heads_kept = refl;
         nexts_kept = refl;
@@ -88,25 +92,22 @@ module _ (counts downs : List ℕ) (k : ℕ) (l : k < 5) (q stop top : ℕ) (hea
         let fewer : a.whole.block * count + left ≤ a.whole.block * count + count = omega (arith, a.few) in
         omega (arith, a.tile_is, top_is a.whole, a.whole.within, mul-le-mul_right S fewer)
 
-    -- a block of level k is there, and may be visited
-    pub across-ready : 1 ≤ left → Tables (length heads) counts downs × (at < length heads) × BlockTop counts k (length nexts) tile
-    across-ready low = (
-      subst⁻¹ (λ (p : ℕ). Tables p counts downs) a.heads_kept t,
-      omega (arith, a.at_below, a.heads_kept),
-      record {
-        block = a.whole.block * count + (left - 1);
-        is = tile-one low ∙ omega arith;
-        within = omega (arith, across_within, a.nexts_kept);
-      },
-    )
+    -- a block of level k is there
+    pub across-ready : 1 ≤ left → BlockTop counts k (length nexts) tile
+    across-ready low =
+        record {
+          block = a.whole.block * count + (left - 1);
+          is = tile-one low ∙ omega arith;
+          within = omega (arith, across_within, a.nexts_kept);
+        }
 
     pub across_room : 1 ≤ left → S ≤ tile
     across_room low = omega (arith, tile-one low)
 
     -- and is visited
-    pub across-step : (tile' at' : ℕ) (heads' nexts' : List ℕ) → 1 ≤ left → tile' ≡ tile - S → at' ≡ lower downs k at
-        → Walks counts downs k at stop tile heads nexts heads' nexts' → Across counts downs k q stop top tile' (left - 1) at' heads₀ nexts₀ heads' nexts'
-    across-step tile' at' heads' nexts' low tile-e at-e w = rw (tile-e, at-e)
+    pub across-step : (tile' left' at' : ℕ) (heads' nexts' : List ℕ) → 1 ≤ left → tile' ≡ tile - S → left' ≡ left - 1 → at' ≡ lower downs k at
+        → Walks counts downs k at stop tile heads nexts heads' nexts' → Across counts downs k q stop top tile' left' at' heads₀ nexts₀ heads' nexts'
+    across-step tile' left' at' heads' nexts' low tile-e left-e at-e w = rw (tile-e, left-e, at-e)
         record {
           whole = a.whole;
           few = omega (arith, a.few);

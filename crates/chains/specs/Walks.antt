@@ -1,6 +1,6 @@
 -- What the walk over the tiles goes by: five counts and five tables of downward neighbours. A count is the product of the cuts of some dimensions
 -- that follow each other and are walked as one; counts of ones stand after them. Places are counted from 0, and place 0 runs fastest.
-use Rattle.std.specs.Prelude.{false, ◌≡◌, ◌≢◌, List, ℕ, suc, ◌+◌, ◌-◌, ◌*◌, ◌/◌, ◌%◌, ◌<◌, ◌≤◌, max, length, get_or, take}
+use Rattle.std.specs.Prelude.{Bool, true, false, ◌≡◌, ◌≢◌, List, ℕ, suc, ◌+◌, ◌-◌, ◌*◌, ◌/◌, ◌%◌, ◌<◌, ◌≤◌, max, length, get_or, take}
 use Rattle.numbers.specs.Products.{product}
 use Rattle.multipartition.specs.Neighbours.{next_owner}
 use Rattle.multipartition.specs.Plans.{tiles_of}
@@ -9,6 +9,8 @@ use Rattle.layout.specs.declared.Plan.{Plan}
 use Rattle.layout.specs.Plans.{layout_of}
 use Rattle.layout.specs.Shaped.{entry_of}
 use Rattle.chains.specs.Stages.{Onward}
+use Rattle.chains.specs.declared.Way.{Way}
+use Rattle.chains.specs.declared.Way.TheVariants as W
 
 -- ---- blocks
 
@@ -52,12 +54,33 @@ pub record RisingRuns (p : ℕ) (downs runs : List ℕ) : Type 0 where
   pub long : length runs ≡ 4096
   pub at : (q : ℕ) → q < p → Rises p downs q (get_or runs q 0)
 
--- what the table `leaps` has for a line: two steps along place 0 (way 0), falling runs (1) or rising runs (2)
-pub record Leaps (way p : ℕ) (downs leaps : List ℕ) : Type 0 where
-  pub two : way ≡ 0 → TwoSteps p downs leaps
-  pub falling : way ≡ 1 → FallingRuns p downs leaps
-  pub rising : way ≡ 2 → RisingRuns p downs leaps
-  pub known : way ≤ 2
+-- ---- both directions
+
+-- the processor j further on in a run: above q where it rises, below q where it falls
+abbrev pub along : Bool → ℕ → ℕ → ℕ
+along true q j = q + j
+along false q j = q - j
+
+-- that processor is one of p, as q is
+abbrev pub Reaches : Bool → ℕ → ℕ → ℕ → Type 0
+Reaches true p q j = q + j < p
+Reaches false p q j = (j ≤ q) × (q < p)
+
+-- the processor i places from the end at which the runs of p processors end: the last of them where they rise, the first where they fall
+abbrev pub nth : Bool → ℕ → ℕ → ℕ
+nth true p i = p - 1 - i
+nth false p i = i
+
+-- a table of runs
+abbrev pub Runs : Bool → ℕ → List ℕ → List ℕ → Type 0
+Runs true p downs runs = RisingRuns p downs runs
+Runs false p downs runs = FallingRuns p downs runs
+
+-- what the table `leaps` has for a line: two steps along place 0, falling runs or rising runs
+pub record Leaps (way : Way) (p : ℕ) (downs leaps : List ℕ) : Type 0 where
+  pub two : way ≡ W.Paired → TwoSteps p downs leaps
+  pub falling : way ≡ W.Falling → FallingRuns p downs leaps
+  pub rising : way ≡ W.Rising → RisingRuns p downs leaps
 
 -- counts, and tables that lead from processors to processors
 pub record Tables (p : ℕ) (counts downs : List ℕ) : Type 0 where

@@ -3,21 +3,26 @@
 // up in a table of downward neighbours: no tile takes a division. Dimensions that follow each other are walked as one where they can be.
 #![tactic(auto)]
 
-ghost use Rattle.std.specs.Prelude.{true, ◌≡◌, ℕ, ◌+◌, ◌-◌, ◌<◌, ◌≤◌, min, max, ◌*◌, ◌%◌, eqb, length, replicate};
+ghost use Rattle.std.specs.Prelude.{true, ◌≡◌, ℕ, ◌+◌, ◌-◌, ◌<◌, ◌≤◌, max, ◌*◌, ◌%◌, eqb, length, replicate};
 ghost use Rattle.multipartition.specs.Plans.{tiles_of};
 ghost use Rattle.multipartition.specs.Questions.{tile_owner, chains_answer, stage_answer};
+ghost use Rattle.refusals.specs.Told.{Answers};
 ghost use Rattle.layout.specs.Plans.{layout_of};
-ghost use Rattle.layout.specs.Shaped.{Shaped};
-ghost use Rattle.chains.specs.Told.{Answers};
 ghost use Rattle.chains.specs.Stages.{Visited, Onward};
-ghost use Rattle.chains.specs.Walks.{block_size, BlockTop, lower, TwoSteps, FallingRuns, RisingRuns, Leaps, Tables, Run, Walks, Tabled, Counted, Continues, Grouped};
+ghost use Rattle.chains.specs.Walks.{block_size, BlockTop, lower, along, Reaches, nth, TwoSteps, Runs, Leaps, Run, Walks, Tabled, Counted, Continues, Grouped};
 
-use layout::Plan;
+use crate::grid::{Grid, Walk};
+use layout::{Axis, Plan, ShapedPlan};
+use refusals::Refusal;
 
+mod grid; // grid.rt: a plan's grid and the walk over it
+
+// How a line is visited: two owners side by side, or runs whose owners fall, or rise, by one from tile to tile.
 #[derive(Clone, Copy)]
-pub enum Chained {
-    Done,
-    Refused { number: u32, place: u32 },
+enum Way {
+    Paired,
+    Falling,
+    Rising,
 }
 
 // A group of dimensions that are counted as one: its place among the counts, and its first dimension.
@@ -27,52 +32,9 @@ struct Group {
     first: usize,
 }
 
-// Zero in every place.
-fn clear(list: &mut [u32])
-    ensures { list.new ≡ replicate (length list.old) 0 }
-{
-    let mut i = 0;
-    while i < list.len() {
-        list[i] = 0;
-        i += 1;
-    }
-}
-
-// The larger of two numbers.
-fn larger(a: u32, b: u32) -> u32
-    ensures { result ≡ max a b }
-{
-    if b <= a {
-        return a;
-    }
-    b
-}
-
-// A tile as a place.
-fn wide(tile: u32) -> usize
-    ensures { result ≡ tile }
-{
-    tile as usize
-}
-
-// A number of a table as a place.
-fn place(q: u16) -> usize
-    ensures { result ≡ q }
-{
-    q as usize
-}
-
-// The processor one step down from q along place k.
-fn lower(downs: &[u16; 20480], k: usize, q: usize) -> usize
-    requires { (k < 5) × (q < 4096) }
-    ensures { result ≡ lower downs.now k q }
-{
-    let at = k * 4096 + q;
-    place(downs[at])
-}
-
 // Visits a tile, the highest that is not yet visited: its next is its owner's lowest tile so far, and it becomes the lowest. Its place in the second
-// list is `at`; all other places of that list stay.
+// list is `at`; all other places of that list stay. The two lists go side by side, as the caller lends them (document 01): a value that lends both is
+// no plainer.
 fn visit(tile: u32, at: usize, owner: usize, heads: &mut [u32], nexts: &mut [u32])
     requires { (tile ≡ at + 1) × (tile ≤ length nexts.old) × (owner < 4096) × (owner < length heads.old) }
     ensures { Onward (λ own. own tile ≡ owner) tile at heads.old nexts.old heads.new nexts.new }
@@ -81,249 +43,215 @@ fn visit(tile: u32, at: usize, owner: usize, heads: &mut [u32], nexts: &mut [u32
     heads[owner] = tile;
 }
 
-// Visits a line along place 0. Two owners go along, each taking two steps at once, so that a look-up need not wait for the one before.
-fn paired_line<'a>(
-    counts: &'a [u32; 5],
-    downs: &'a [u16; 20480],
-    twice: &'a [u16; 4096],
-    q: usize,
-    top: u32,
-    stop: u32,
-    heads: &mut [u32],
-    nexts: &mut [u32],
-)
-    requires { (Tables (length heads.old) counts.now downs.now) × (TwoSteps (length heads.old) downs.now twice.now) × (q < length heads.old) × (BlockTop counts.now 1 (length nexts.old) top) }
-    ensures { Walks counts.now downs.now 1 q stop top heads.old nexts.old heads.new nexts.new }
+// The processor j further on: above q in a rising run, below it in a falling one. Inlined, so that each direction is compiled for itself.
+#[inline(always)]
+fn along(rising: bool, q: usize, j: usize) -> usize
+    requires { (p : ℕ) × (p ≤ 4096) × Reaches rising p q j }
+    ensures { result ≡ along rising q j }
 {
-    let last = larger(stop, top - counts[0]);
-    let mut tile = top;
-    let mut here = q;
-    let mut next = lower(downs, 0, q);
-    while last < tile {
-        let after = place(twice[here]);
-        visit(tile, wide(tile) - 1, here, heads, nexts);
-        tile = tile - 1;
-        here = next;
-        next = after;
-    }
+    if rising { q + j } else { q - j }
 }
 
-// The smaller of two numbers.
-fn smaller(a: usize, b: usize) -> usize
-    ensures { result ≡ min a b }
+// The processor with i others behind it on a run of all p.
+#[inline(always)]
+fn nth(rising: bool, p: usize, i: usize) -> usize
+    requires { i < p }
+    ensures { result ≡ nth rising p i }
 {
-    if a <= b {
-        return a;
-    }
-    b
+    if rising { p - 1 - i } else { i }
 }
 
-// Visits `count` tiles, the highest of them `top`, that belong to the processors q, q - 1, ..
-fn falling_run(top: u32, q: usize, count: usize, heads: &mut [u32], nexts: &mut [u32])
-    requires { (count ≤ q + 1) × (count ≤ top) × (top ≤ length nexts.old) × (q < 4096) × (q < length heads.old) }
-    ensures { Run (λ j. q - j) top count heads.old nexts.old heads.new nexts.new }
-{
-    let from = q + 1 - count;
-    let below = (top as usize) - count;
-    let mut tile = top;
-    let mut i = count;
-    while 0 < i {
-        i = i - 1;
-        visit(tile, below + i, from + i, heads, nexts);
-        tile = tile - 1;
-    }
-}
-
-// Visits a line along place 0 by runs whose owners fall by one from tile to tile.
-fn falling_line<'a>(
-    counts: &'a [u32; 5],
-    downs: &'a [u16; 20480],
-    runs: &'a [u16; 4096],
-    q: usize,
-    top: u32,
-    stop: u32,
-    heads: &mut [u32],
-    nexts: &mut [u32],
-)
-    requires { (Tables (length heads.old) counts.now downs.now) × (FallingRuns (length heads.old) downs.now runs.now) × (q < length heads.old) × (BlockTop counts.now 1 (length nexts.old) top) }
-    ensures { Walks counts.now downs.now 1 q stop top heads.old nexts.old heads.new nexts.new }
-{
-    let last = larger(stop, top - counts[0]);
-    let mut tile = top;
-    let mut here = q;
-    while last < tile {
-        let n = smaller(place(runs[here]) + 1, (tile - last) as usize);
-        falling_run(tile, here, n, heads, nexts);
-        here = lower(downs, 0, here - (n - 1));
-        tile = tile - (n as u32);
-    }
-}
-
-// Visits `count` tiles, the highest of them `top`, that belong to the processors q, q + 1, ..
-fn rising_run(top: u32, q: usize, count: usize, heads: &mut [u32], nexts: &mut [u32])
-    requires { (q + count ≤ 4096) × (count ≤ top) × (top ≤ length nexts.old) × (q + count ≤ length heads.old) }
-    ensures { Run (λ j. q + j) top count heads.old nexts.old heads.new nexts.new }
-{
-    let below = (top as usize) - count;
-    let mut tile = top;
-    let mut owner = q;
-    let mut i = count;
-    while 0 < i {
-        i = i - 1;
-        visit(tile, below + i, owner, heads, nexts);
-        tile = tile - 1;
-        owner = owner + 1;
-    }
-}
-
-// Visits a line along place 0 by runs whose owners rise by one from tile to tile.
-fn rising_line<'a>(
-    counts: &'a [u32; 5],
-    downs: &'a [u16; 20480],
-    runs: &'a [u16; 4096],
-    q: usize,
-    top: u32,
-    stop: u32,
-    heads: &mut [u32],
-    nexts: &mut [u32],
-)
-    requires { (Tables (length heads.old) counts.now downs.now) × (RisingRuns (length heads.old) downs.now runs.now) × (q < length heads.old) × (BlockTop counts.now 1 (length nexts.old) top) }
-    ensures { Walks counts.now downs.now 1 q stop top heads.old nexts.old heads.new nexts.new }
-{
-    let last = larger(stop, top - counts[0]);
-    let mut tile = top;
-    let mut here = q;
-    while last < tile {
-        let n = smaller(place(runs[here]) + 1, (tile - last) as usize);
-        rising_run(tile, here, n, heads, nexts);
-        here = lower(downs, 0, here + (n - 1));
-        tile = tile - (n as u32);
-    }
-}
-
-// Visits a line along place 0, by what the table `leaps` has.
-fn line<'a>(
-    counts: &'a [u32; 5],
-    downs: &'a [u16; 20480],
-    leaps: &'a [u16; 4096],
-    way: u32,
-    q: usize,
-    top: u32,
-    stop: u32,
-    heads: &mut [u32],
-    nexts: &mut [u32],
-)
-    requires { (Tables (length heads.old) counts.now downs.now) × (Leaps way (length heads.old) downs.now leaps.now) × (q < length heads.old) × (BlockTop counts.now 1 (length nexts.old) top) }
-    ensures { Walks counts.now downs.now 1 q stop top heads.old nexts.old heads.new nexts.new }
-{
-    if way == 1 {
-        falling_line(counts, downs, leaps, q, top, stop, heads, nexts);
-        return;
-    }
-    if way == 2 {
-        rising_line(counts, downs, leaps, q, top, stop, heads, nexts);
-        return;
-    }
-    paired_line(counts, downs, leaps, q, top, stop, heads, nexts);
-}
-
-// Visits a block of level 2, line by line, and gives the tile below it.
-fn lines<'a>(
-    counts: &'a [u32; 5],
-    downs: &'a [u16; 20480],
-    leaps: &'a [u16; 4096],
-    way: u32,
-    q: usize,
-    top: u32,
-    stop: u32,
-    heads: &mut [u32],
-    nexts: &mut [u32],
-) -> u32
-    requires { (Tables (length heads.old) counts.now downs.now) × (Leaps way (length heads.old) downs.now leaps.now) × (q < length heads.old) × (BlockTop counts.now 2 (length nexts.old) top) }
-    ensures { (result ≡ top - block_size counts.now 2) × (Walks counts.now downs.now 2 q stop top heads.old nexts.old heads.new nexts.new) }
+// Visits `count` tiles, the highest of them `top`, that belong to the processors from q on, one after the other.
+#[inline(always)]
+fn visit_run(rising: bool, top: u32, q: usize, count: usize, heads: &mut [u32], nexts: &mut [u32])
+    requires { (count ≤ top) × (top ≤ length nexts.old) × (length heads.old ≤ 4096) × ((j : ℕ) → j < count → Reaches rising (length heads.old) q j) }
+    ensures { Run (along rising q) top count heads.old nexts.old heads.new nexts.new }
 {
     let mut tile = top;
-    let mut left = counts[1];
-    let mut at = q;
-    while 0 < left {
-        line(counts, downs, leaps, way, at, tile, stop, heads, nexts);
-        at = lower(downs, 1, at);
-        tile = tile - counts[0];
-        left = left - 1;
+    // An index: the tiles and the owners are counted side by side, the owners up or down.
+    for j in 0..count {
+        visit(
+            tile,
+            (top as usize) - (j + 1),
+            along(rising, q, j),
+            heads,
+            nexts,
+        );
+        tile -= 1;
     }
-    tile
 }
 
-// Visits a block, level by level down to lines, and gives the tile below it.
-fn walk<'a>(
-    counts: &'a [u32; 5],
-    downs: &'a [u16; 20480],
-    leaps: &'a [u16; 4096],
-    way: u32,
-    level: usize,
-    q: usize,
-    top: u32,
-    stop: u32,
-    heads: &mut [u32],
-    nexts: &mut [u32],
-) -> u32
-    requires { (2 ≤ level) × (level ≤ 5) × (Tables (length heads.old) counts.now downs.now) × (Leaps way (length heads.old) downs.now leaps.now) × (q < length heads.old) × (BlockTop counts.now level (length nexts.old) top) }
-    ensures { (result ≡ top - block_size counts.now level) × (Walks counts.now downs.now level q stop top heads.old nexts.old heads.new nexts.new) }
+impl<'a> Grid<'a> {
+    // The processor one step down from q along place k.
+    fn lower(&self, k: usize, q: usize) -> usize
+        requires { (k < 5) × (q < self.now.p) }
+        ensures { result ≡ lower self.now.downs.now k q }
+    {
+        usize::from(self.downs[k * 4096 + q])
+    }
+
+    // Fills the table of two steps along place 0.
+    fn two_steps(&self, twice: &mut [u16; 4096])
+        requires { length twice.old ≡ 4096 }
+        ensures { TwoSteps self.now.p self.now.downs.now twice.new }
+    {
+        for (q, two) in twice[..self.p].iter_mut().enumerate() {
+            *two = self.downs[self.lower(0, q)];
+        }
+    }
+
+    // Fills the table of runs along place 0.
+    #[inline(always)]
+    fn runs(&self, rising: bool, runs: &mut [u16; 4096])
+        requires { length runs.old ≡ 4096 }
+        ensures { Runs rising self.now.p self.now.downs.now runs.new }
+    {
+        let mut run: u16 = 0;
+        // An index: the runs are counted from the processor at which they end, the first or the last.
+        for i in 0..self.p {
+            let q = nth(rising, self.p, i);
+            run = longer(rising, q, self.lower(0, q), run);
+            runs[q] = run;
+        }
+    }
+
+    // Fills the table of leaps along place 0, and says what it has: runs where they are long and the lines too, else two steps.
+    fn leaps(&self, table: &mut [u16; 4096]) -> Way
+        requires { (1 ≤ self.now.p) × (length table.old ≡ 4096) }
+        ensures { Leaps result self.now.p self.now.downs.now table.new }
+    {
+        let long = 32 <= self.counts[0];
+        self.runs(false, table);
+        if long && 32 <= table[self.p - 1] {
+            return Way::Falling;
+        }
+        self.runs(true, table);
+        if long && 32 <= table[0] {
+            return Way::Rising;
+        }
+        self.two_steps(table);
+        Way::Paired
+    }
+}
+
+impl<'a> Walk<'a> {
+    // Visits a line along place 0. Two owners go along, each taking two steps at once, so that a look-up need not wait for the one before.
+    fn paired_line(&self, q: usize, top: u32, heads: &mut [u32], nexts: &mut [u32])
+        requires { (self.now.way ≡ Way.Paired) × (length heads.old ≡ self.now.grid.p) × (q < self.now.grid.p) × BlockTop self.now.grid.counts.now 1 (length nexts.old) top }
+        ensures { Walks self.now.grid.counts.now self.now.grid.downs.now 1 q self.now.stop top heads.old nexts.old heads.new nexts.new }
+    {
+        let twice = self.leaps;
+        let last = self.stop.max(top - self.grid.counts[0]);
+        let mut here = q;
+        let mut next = self.grid.lower(0, q);
+        for at in (last..top).rev() {
+            let after = usize::from(twice[here]);
+            visit(at + 1, at as usize, here, heads, nexts);
+            here = next;
+            next = after;
+        }
+    }
+
+    // Visits a line along place 0 by runs.
+    #[inline(always)]
+    fn run_line(&self, rising: bool, q: usize, top: u32, heads: &mut [u32], nexts: &mut [u32])
+        requires { (Runs rising self.now.grid.p self.now.grid.downs.now self.now.leaps.now) × (length heads.old ≡ self.now.grid.p) × (q < self.now.grid.p) × BlockTop self.now.grid.counts.now 1 (length nexts.old) top }
+        ensures { Walks self.now.grid.counts.now self.now.grid.downs.now 1 q self.now.stop top heads.old nexts.old heads.new nexts.new }
+    {
+        let last = self.stop.max(top - self.grid.counts[0]);
+        let mut tile = top;
+        let mut here = q;
+        // A turn takes a run of tiles: no `for` counts runs.
+        while last < tile {
+            let n = (usize::from(self.leaps[here]) + 1).min((tile - last) as usize);
+            visit_run(rising, tile, here, n, heads, nexts);
+            here = self.grid.lower(0, along(rising, here, n - 1));
+            tile -= n as u32;
+        }
+    }
+
+    // Visits a line along place 0, by what the table of leaps has.
+    fn line(&self, q: usize, top: u32, heads: &mut [u32], nexts: &mut [u32])
+        requires { (length heads.old ≡ self.now.grid.p) × (q < self.now.grid.p) × BlockTop self.now.grid.counts.now 1 (length nexts.old) top }
+        ensures { Walks self.now.grid.counts.now self.now.grid.downs.now 1 q self.now.stop top heads.old nexts.old heads.new nexts.new }
+    {
+        match self.way {
+            Way::Paired => self.paired_line(q, top, heads, nexts),
+            Way::Falling => self.run_line(false, q, top, heads, nexts),
+            Way::Rising => self.run_line(true, q, top, heads, nexts),
+        }
+    }
+
+    // Visits a block of level 2, line by line, and gives the tile below it.
+    fn lines(&self, q: usize, top: u32, heads: &mut [u32], nexts: &mut [u32]) -> u32
+        requires { (length heads.old ≡ self.now.grid.p) × (q < self.now.grid.p) × BlockTop self.now.grid.counts.now 2 (length nexts.old) top }
+        ensures { (result ≡ top - block_size self.now.grid.counts.now 2) × (Walks self.now.grid.counts.now self.now.grid.downs.now 2 q self.now.stop top heads.old nexts.old heads.new nexts.new) }
+    {
+        let mut tile = top;
+        let mut at = q;
+        for _ in 0..self.grid.counts[1] {
+            self.line(at, tile, heads, nexts);
+            at = self.grid.lower(1, at);
+            tile -= self.grid.counts[0];
+        }
+        tile
+    }
+
+    // Visits a block, level by level down to lines, and gives the tile below it.
+    fn block(&self, level: usize, q: usize, top: u32, heads: &mut [u32], nexts: &mut [u32]) -> u32
+        requires { (2 ≤ level) × (level ≤ 5) × (length heads.old ≡ self.now.grid.p) × (q < self.now.grid.p) × BlockTop self.now.grid.counts.now level (length nexts.old) top }
+        ensures { (result ≡ top - block_size self.now.grid.counts.now level) × (Walks self.now.grid.counts.now self.now.grid.downs.now level q self.now.stop top heads.old nexts.old heads.new nexts.new) }
+    {
+        if level == 2 {
+            return self.lines(q, top, heads, nexts);
+        }
+        let k = level - 1;
+        let mut tile = top;
+        let mut at = q;
+        for _ in 0..self.grid.counts[k] {
+            tile = self.block(k, at, tile, heads, nexts);
+            at = self.grid.lower(k, at);
+        }
+        tile
+    }
+}
+
+// One more than `run`, the run of the processor behind q, if the processor one step down from q goes on with it, and else 0.
+#[inline(always)]
+fn longer(rising: bool, q: usize, next: usize, run: u16) -> u16
+    requires { (q < 4096) × (next < 4096) × (run < 4096) }
+    ensures { 1 ≤ result → (Reaches rising 4097 q 1) × (next ≡ along rising q 1) × (result ≡ run + 1) }
 {
-    if level == 2 {
-        return lines(counts, downs, leaps, way, q, top, stop, heads, nexts);
+    let goes_on = if rising { next == q + 1 } else { next + 1 == q };
+    if goes_on {
+        return run + 1;
     }
-    let k = level - 1;
-    let mut tile = top;
-    let mut left = counts[k];
-    let mut at = q;
-    while 0 < left {
-        let below = walk(counts, downs, leaps, way, k, at, tile, stop, heads, nexts);
-        at = lower(downs, k, at);
-        tile = below;
-        left = left - 1;
-    }
-    tile
+    0
 }
 
 // The owner of the highest tile.
-fn top_owner(plan: Plan) -> usize
-    requires { Shaped plan }
-    ensures { (result ≡ tile_owner (layout_of plan) (tiles_of (layout_of plan))) × (result < plan.p) }
+fn top_owner(shaped: &ShapedPlan) -> usize
+    ensures { (result ≡ tile_owner (layout_of shaped.now.plan) (tiles_of (layout_of shaped.now.plan))) × (result < shaped.now.plan.p) }
 {
-    let d = plan.d;
-    let mut at = [0; 5];
-    for k in 0..d {
-        at[k] = plan.cuts[k] - 1;
+    let mut at = shaped.plan.cuts;
+    let coordinates = &mut at[..shaped.plan.d];
+    for coordinate in coordinates.iter_mut() {
+        *coordinate -= 1;
     }
-    let owner = questions::owner_number(d, &plan.moduli, &plan.matrix, &at[..d]);
-    owner as usize
+    questions::owners(shaped).owner(coordinates) as usize
 }
 
-// Makes table c that of the downward neighbours along place k.
-fn table(plan: Plan, k: usize, c: usize, downs: &mut [u16; 20480])
-    requires { (Shaped plan) × (k < plan.d) × (c < 5) × (length downs.old ≡ 20480) }
-    ensures { Tabled plan k c downs.old downs.new }
+// Makes table c that of the downward neighbours along a dimension.
+fn table(axis: &Axis, c: usize, downs: &mut [u16; 20480])
+    requires { (c < 5) × (length downs.old ≡ 20480) }
+    ensures { Tabled axis.now.shaped.plan axis.now.k c downs.old downs.new }
 {
+    let owners = questions::owners(&axis.shaped);
     let from = c * 4096;
-    let p = plan.p;
-    let mut q: u32 = 0;
-    while q < p {
-        let at = from + (q as usize);
-        let below = questions::neighbour_number(plan.d, &plan.moduli, &plan.matrix, k, false, q);
-        downs[at] = below as u16;
-        q = q + 1;
+    let to = from + axis.shaped.plan.p as usize;
+    for (q, below) in downs[from..to].iter_mut().enumerate() {
+        *below = owners.neighbour(axis.k, false, q as u32) as u16;
     }
-}
-
-// Whether there are more than one, as a number.
-fn several(g: u32) -> usize
-    ensures { (result ≤ 1) × (result ≡ 0 → g ≡ 1) }
-{
-    if g == 1 {
-        return 0;
-    }
-    1
 }
 
 // Whether g steps by a are one step by b, modulo m.
@@ -331,209 +259,115 @@ fn same_step(g: u32, a: u32, b: u32, m: u32) -> bool
     requires { 1 ≤ m }
     ensures { result ≡ eqb ((g * a) % m) b }
 {
-    let far = (g as u64) * (a as u64);
-    far % (m as u64) == (b as u64)
+    u64::from(g) * u64::from(a) % u64::from(m) == u64::from(b)
 }
 
-// Whether one step along dimension k is g steps along dimension j. A dimension that is not cut has no step, and goes on with any.
-fn continues(plan: Plan, g: u32, j: usize, k: usize) -> bool
-    requires { (Shaped plan) × (j < plan.d) × (k < plan.d) }
-    ensures { result ≡ true → Continues plan g j k }
+// Whether one step along a dimension is g steps along dimension `first`. A dimension that is not cut has no step, and goes on with any.
+fn continues(axis: &Axis, g: u32, first: usize) -> bool
+    requires { first < axis.now.shaped.plan.d }
+    ensures { result ≡ true → Continues axis.now.shaped.plan g first axis.now.k }
 {
-    let d = plan.d;
-    let b = plan.cuts[k];
-    if b == 1 {
-        return true;
-    }
-    for i in 0..d {
-        let row = i * 5;
-        if !same_step(
-            g,
-            plan.matrix[row + j],
-            plan.matrix[row + k],
-            plan.moduli[i],
-        ) {
-            return false;
-        }
-    }
-    true
+    let plan = &axis.shaped.plan;
+    // An index: row i of the matrix stands at places 5 * i on, and its modulus at place i.
+    axis.cut() == 1
+        || (0..plan.d).all(|i| {
+            same_step(
+                g,
+                plan.matrix[i * 5 + first],
+                plan.matrix[i * 5 + axis.k],
+                plan.moduli[i],
+            )
+        })
 }
 
-// Counts dimension k: in the last group, if it goes on there, or in a group of its own, which takes the place of a last group of one tile.
-fn join(
-    plan: Plan,
-    k: usize,
-    group: Group,
-    counts: &mut [u32; 5],
-    downs: &mut [u16; 20480],
-) -> Group
-    requires { (Shaped plan) × (k < plan.d) × (Grouped plan k group.at group.first counts.old downs.old) }
-    ensures { Grouped plan (k + 1) result.at result.first counts.new downs.new }
+// Counts a dimension: in the last group, if it goes on there, or in a group of its own, which takes the place of a last group of one tile.
+fn join(axis: &Axis, group: Group, counts: &mut [u32; 5], downs: &mut [u16; 20480]) -> Group
+    requires { Grouped axis.now.shaped.plan axis.now.k group.at group.first counts.old downs.old }
+    ensures { Grouped axis.now.shaped.plan (axis.now.k + 1) result.at result.first counts.new downs.new }
 {
-    let at = group.at;
-    let b = plan.cuts[k];
-    let g = counts[at];
-    if continues(plan, g, group.first, k) {
-        counts[at] = g * b;
+    let g = counts[group.at];
+    let b = axis.cut();
+    if continues(axis, g, group.first) {
+        counts[group.at] = g * b;
         return group;
     }
-    let c = at + several(g);
-    table(plan, k, c, downs);
+    let c = group.at + usize::from(g != 1);
+    table(axis, c, downs);
     counts[c] = b;
-    Group { at: c, first: k }
+    Group {
+        at: c,
+        first: axis.k,
+    }
 }
 
 // The counts of a plan, with their tables.
-fn tables(plan: Plan, downs: &mut [u16; 20480]) -> [u32; 5]
-    requires { (Shaped plan) × (downs.old ≡ replicate 20480 0) }
-    ensures { Counted plan result downs.new }
+fn tables(shaped: &ShapedPlan, downs: &mut [u16; 20480]) -> [u32; 5]
+    requires { downs.old ≡ replicate 20480 0 }
+    ensures { Counted shaped.now.plan result downs.new }
 {
-    let d = plan.d;
+    let first = Axis {
+        shaped: *shaped,
+        k: 0,
+    };
     let mut counts = [1; 5];
-    table(plan, 0, 0, downs);
-    counts[0] = plan.cuts[0];
+    table(&first, 0, downs);
+    counts[0] = shaped.plan.cuts[0];
     let mut group = Group { at: 0, first: 0 };
-    for k in 1..d {
-        group = join(plan, k, group, &mut counts, downs);
+    for k in 1..shaped.plan.d {
+        group = join(&Axis { shaped: *shaped, k }, group, &mut counts, downs);
     }
     counts
 }
 
-// Fills the table of two steps along place 0.
-fn two_steps(p: u32, downs: &[u16; 20480], twice: &mut [u16; 4096])
-    requires { (p ≤ 4096) × ((q : ℕ) → q < p → lower downs.now 0 q < p) × (length twice.old ≡ 4096) }
-    ensures { TwoSteps p downs.now twice.new }
-{
-    let many = p as usize;
-    let mut q = 0;
-    while q < many {
-        let at = lower(downs, 0, q);
-        twice[q] = downs[at];
-        q = q + 1;
-    }
-}
-
-// One more than `run` where two numbers agree, and else 0.
-fn one_more(a: usize, b: usize, run: u16) -> u16
-    requires { run < 65535 }
-    ensures { 1 ≤ result → (a ≡ b) × (result ≡ run + 1) }
-{
-    if a == b {
-        return run + 1;
-    }
-    0
-}
-
-// Fills the table of falling runs along place 0.
-fn falling_runs(p: u32, downs: &[u16; 20480], runs: &mut [u16; 4096])
-    requires { (p ≤ 4096) × ((q : ℕ) → q < p → lower downs.now 0 q < p) × (length runs.old ≡ 4096) }
-    ensures { FallingRuns p downs.now runs.new }
-{
-    let many = p as usize;
-    let mut run: u16 = 0;
-    let mut q = 0;
-    while q < many {
-        run = one_more(lower(downs, 0, q) + 1, q, run);
-        runs[q] = run;
-        q = q + 1;
-    }
-}
-
-// Fills the table of rising runs along place 0.
-fn rising_runs(p: u32, downs: &[u16; 20480], runs: &mut [u16; 4096])
-    requires { (p ≤ 4096) × ((q : ℕ) → q < p → lower downs.now 0 q < p) × (length runs.old ≡ 4096) }
-    ensures { RisingRuns p downs.now runs.new }
-{
-    let mut run: u16 = 0;
-    let mut q = p as usize;
-    while 0 < q {
-        q = q - 1;
-        run = one_more(lower(downs, 0, q), q + 1, run);
-        runs[q] = run;
-    }
-}
-
-// Fills the table of leaps along place 0, and says what it has: runs where they are long and the lines too, else two steps.
-fn leaps(p: u32, count: u32, downs: &[u16; 20480], table: &mut [u16; 4096]) -> u32
-    requires { (1 ≤ p) × (p ≤ 4096) × ((q : ℕ) → q < p → lower downs.now 0 q < p) × (length table.old ≡ 4096) }
-    ensures { Leaps result p downs.now table.new }
-{
-    let last = (p as usize) - 1;
-    falling_runs(p, downs, table);
-    if 32 <= smaller(place(table[last]), wide(count)) {
-        return 1;
-    }
-    rising_runs(p, downs, table);
-    if 32 <= smaller(place(table[0]), wide(count)) {
-        return 2;
-    }
-    two_steps(p, downs, table);
-    0
-}
-
 // Visits the tiles above `stop`, from the highest down.
-fn visit_above(plan: Plan, stop: u32, heads: &mut [u32], nexts: &mut [u32])
-    requires shaped { (Shaped plan) × (stop ≤ tiles_of (layout_of plan)) }
-    requires visited { Visited plan (tiles_of (layout_of plan)) nexts.old heads.old nexts.old }
-    ensures { Visited plan stop nexts.old heads.new nexts.new }
+fn visit_above(shaped: &ShapedPlan, stop: u32, heads: &mut [u32], nexts: &mut [u32])
+    requires within { stop ≤ tiles_of (layout_of shaped.now.plan) }
+    requires visited { Visited shaped.now.plan (tiles_of (layout_of shaped.now.plan)) nexts.old heads.old nexts.old }
+    ensures { Visited shaped.now.plan stop nexts.old heads.new nexts.new }
 {
     let mut downs = [0; 20480];
-    let counts = tables(plan, &mut downs);
-    let mut table = [0; 4096];
-    let way = leaps(plan.p, counts[0], &downs, &mut table);
-    let top = layout::tile_count(plan) as u32;
-    walk(
-        &counts,
-        &downs,
-        &table,
+    let counts = tables(shaped, &mut downs);
+    let grid = Grid {
+        p: shaped.plan.p as usize,
+        counts: &counts,
+        downs: &downs,
+    };
+    let mut leaps = [0; 4096];
+    let way = grid.leaps(&mut leaps);
+    let walk = Walk {
+        grid,
         way,
-        5,
-        top_owner(plan),
-        top,
+        leaps: &leaps,
         stop,
-        heads,
-        nexts,
-    );
+    };
+    let top = shaped.tile_count() as u32;
+    walk.block(5, top_owner(shaped), top, heads, nexts);
 }
 
 // Clears the first list and visits the tiles above `stop`.
-fn fill(plan: Plan, stop: u32, heads: &mut [u32], nexts: &mut [u32])
-    requires { (Shaped plan) × (stop ≤ tiles_of (layout_of plan)) × (length heads.old ≡ plan.p) × (length nexts.old ≡ tiles_of (layout_of plan)) }
-    ensures { Visited plan stop nexts.old heads.new nexts.new }
+fn fill(shaped: &ShapedPlan, stop: u32, heads: &mut [u32], nexts: &mut [u32])
+    requires { (stop ≤ tiles_of (layout_of shaped.now.plan)) × (length heads.old ≡ shaped.now.plan.p) × (length nexts.old ≡ tiles_of (layout_of shaped.now.plan)) }
+    ensures { Visited shaped.now.plan stop nexts.old heads.new nexts.new }
 {
-    clear(heads);
-    visit_above(plan, stop, heads, nexts);
+    heads.fill(0);
+    visit_above(shaped, stop, heads, nexts);
 }
 
 // The chain call as far as stage `stop`, whichever it is.
-fn chains_to(plan: Plan, stop: u32, heads: &mut [u32], nexts: &mut [u32]) -> Chained
+fn chains_to(plan: Plan, stop: u32, heads: &mut [u32], nexts: &mut [u32]) -> Result<(), Refusal>
     requires { stop ≤ tiles_of (layout_of plan) }
     ensures { Answers (stage_answer (layout_of plan) stop (length heads.old) nexts.old) result (heads.old, nexts.old) (heads.new, nexts.new) }
 {
-    if !layout::in_shape(plan) {
-        return Chained::Refused {
-            number: 6,
-            place: 0,
-        };
+    let shaped = plan.checked()?;
+    if heads.len() != shaped.plan.p as usize || nexts.len() != shaped.tile_count() {
+        return Err(Refusal::Room);
     }
-    if heads.len() != plan.p as usize {
-        return Chained::Refused {
-            number: 9,
-            place: 0,
-        };
-    }
-    if nexts.len() != layout::tile_count(plan) {
-        return Chained::Refused {
-            number: 9,
-            place: 0,
-        };
-    }
-    fill(plan, stop, heads, nexts);
-    Chained::Done
+    fill(&shaped, stop, heads, nexts);
+    Ok(())
 }
 
 // The first list gets each processor's lowest tile, the second, for each tile, its owner's next higher one.
-pub fn chains(plan: Plan, heads: &mut [u32], nexts: &mut [u32]) -> Chained
+pub fn chains(plan: Plan, heads: &mut [u32], nexts: &mut [u32]) -> Result<(), Refusal>
     ensures { Answers (chains_answer (layout_of plan) (length heads.old) (length nexts.old)) result (heads.old, nexts.old) (heads.new, nexts.new) }
 {
     chains_to(plan, 0, heads, nexts)

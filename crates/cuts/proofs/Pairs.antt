@@ -107,7 +107,7 @@ shares_none divisors = record { placed = λ long. absurd (not-suc-le-zero long);
 
 -- the pairs before (i, j), whose place is `at`, are set
 pub record Filling (divisors lent places : List ℕ) (i j at : ℕ) : Type 0 where
-  pub row : j ≤ i
+  pub row : j ≤ i + 1
   pub here : at ≡ pair_at i j
   pub long : length places ≡ length lent
   pub placed : Placed divisors places
@@ -124,7 +124,7 @@ pub filling_end : (divisors lent places : List ℕ) (i j at : ℕ) → Filling d
 filling_end divisors lent places i j at f all =
     (f.placed, record { placed = λ long. f.placed; right = λ a b h l inside. f.before a b h l (all a b h l inside) })
 
-module _ (divisors lent places : List ℕ) (i j at g v : ℕ) (d : Divisors divisors) (f : Filling divisors lent places i j at) (within : i < length divisors)
+module _ (divisors lent places : List ℕ) (i j at g v : ℕ) (d : Divisors divisors) (f : Filling divisors lent places i j at) (within : i < length divisors) (in-row : j ≤ i)
     (inside : at < length places) (g-is : g ≡ gcd (get_or divisors i 0) (get_or divisors j 0)) (v-is : v ≡ get_or places g 0) where
   abbrev after : List ℕ
   after = set places at v
@@ -147,7 +147,7 @@ module _ (divisors lent places : List ℕ) (i j at g v : ℕ) (d : Divisors divi
     where
       same : pair_at a b ≡ at → SharedAt divisors after a b
       same q =
-          let is = pair_unique a b i j h f.row (q ∙ f.here) in
+          let is = pair_unique a b i j h in-row (q ∙ f.here) in
           subst⁻¹ (λ (n : ℕ). SharedAt divisors after n b) is.0 (subst⁻¹ (λ (n : ℕ). SharedAt divisors after i n) is.1 here_after)
 
       older : pair_at a b < at → SharedAt divisors after a b
@@ -155,11 +155,12 @@ module _ (divisors lent places : List ℕ) (i j at g v : ℕ) (d : Divisors divi
           subst⁻¹ (λ (n : ℕ). (n < length divisors) × (get_or divisors n 0 ≡ gcd (get_or divisors a 0) (get_or divisors b 0)))
           (get_or-set_other places at (pair_at a b) v 0 (λ q. omega (arith, q, m))) (f.before a b h l m)
 
-  -- the next pair of the row, and the first of the next row
-  pub filling_on : j + 1 ≤ i → Filling divisors lent (set places at v) i (j + 1) (at + 1)
-  filling_on more =
-      record { row = more; here = omega (arith, f.here); long = length-set places at v ∙ f.long; placed = placed_after; before = before_after }
+  -- the next pair of the row
+  pub filling_on : Filling divisors lent (set places at v) i (j + 1) (at + 1)
+  filling_on =
+      record { row = omega arith; here = omega (arith, f.here); long = length-set places at v ∙ f.long; placed = placed_after; before = before_after }
 
-  pub filling_row : i < j + 1 → Filling divisors lent (set places at v) (i + 1) 0 (at + 1)
-  filling_row last =
-      record { row = omega arith; here = omega (arith, f.here, f.row, rows_next i); long = length-set places at v ∙ f.long; placed = placed_after; before = before_after }
+-- the first pair of the next row
+pub filling_row : (divisors lent places : List ℕ) (i at : ℕ) → Filling divisors lent places i (i + 1) at → Filling divisors lent places (i + 1) 0 at
+filling_row divisors lent places i at f =
+    record { row = omega arith; here = omega (arith, f.here, rows_next i); long = f.long; placed = f.placed; before = f.before }

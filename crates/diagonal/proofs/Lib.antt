@@ -4,5 +4,6 @@ pub mod Sides
 pub mod Plans
 pub mod Places
 pub mod Answers
-pub mod Refusals
 pub mod Figures
+pub mod Fits
+pub mod Steps

@@ -1,26 +1,31 @@
--- The cost of diagonal cuts, one dimension more at a time, and the matrix in its 25 places.
+-- The cost of diagonal cuts, by the sum of the weights, and the matrix in its 25 places.
 use mathlib.Core.Path.{◌≡◌, refl, sym, ap, ap₂, ◌∙◌}
 use mathlib.Core.List.{List, [], ◌∷◌, ◌++◌}
 use Prim.Native.Nat.{ℕ, zero, suc, ◌+◌, ◌-◌, ◌*◌, ◌%◌, ◌≤◌, ◌<◌}
-use native.Mathlib.Nat.{mod-eq_of_lt, zero-mod}
-use native.Mathlib.Numerals.{add-one}
+use native.Mathlib.Nat.{mul-add, mod-eq_of_lt, zero-mod}
 use native.Mathlib.Omega.{arith}
 use lib.ListN.{length, get_or, take, replicate}
+use Rattle.std.specs.Prelude.{sum}
+use Rattle.std.proofs.lemmas.List.Sums.{sum_by-cons}
 use Rattle.numbers.specs.Sums.{same}
 use Rattle.multipartition.specs.Cuts.{cut_cost, cost_of}
 use Rattle.multipartition.specs.Lists.{list_of}
-use Rattle.layout.specs.Plans.{five, flat}
+use Rattle.layout.specs.Plans.{flat}
 use Rattle.diagonal.specs.Diagonal.{diagonal_cuts, diagonal_moduli, diagonal_row, diagonal_rows, diagonal_matrix}
 
-cost-suc : (s : ℕ) (weights : List ℕ) (k : ℕ) → k < length weights
-    → cost_of (take (suc k) weights) (diagonal_cuts (suc k) s) ≡ cost_of (take k weights) (diagonal_cuts k s) + cut_cost s (get_or weights k 0)
-cost-suc s [] k l = absurd (omega arith)
-cost-suc s (w ∷ weights) zero l = omega arith
-cost-suc s (w ∷ weights) (suc k) l = omega (arith, cost-suc s weights k (omega arith))
+-- the cost by the sum of the weights
+pub cost_is : (s : ℕ) (weights : List ℕ) → (s - 1) * sum weights ≡ cost_of weights (diagonal_cuts (length weights) s)
+unfolding cut_cost
+cost_is s [] = omega arith
+cost_is s (w ∷ weights) =
+    ap (λ (n : ℕ). (s - 1) * n) (sum_by-cons (λ x. x) w weights)
+    ∙ mul-add (s - 1) w (sum weights)
+    ∙ ap (λ (n : ℕ). (s - 1) * w + n) (cost_is s weights)
 
-pub cost-add-one : (s : ℕ) (weights : List ℕ) (k : ℕ) → k < length weights
-    → cost_of (take (k + 1) weights) (diagonal_cuts (k + 1) s) ≡ cost_of (take k weights) (diagonal_cuts k s) + cut_cost s (get_or weights k 0)
-cost-add-one s weights k l = ap (λ (n : ℕ). cost_of (take n weights) (diagonal_cuts n s)) (add-one k) ∙ cost-suc s weights k l
+-- weights that are small each
+pub few-sum : (most : ℕ) (weights : List ℕ) → ((k : ℕ) → get_or weights k 0 ≤ most) → sum weights ≤ length weights * most
+few-sum most [] small = omega arith
+few-sum most (w ∷ weights) small = omega (arith, sum_by-cons (λ x. x) w weights, small 0, few-sum most weights (λ k. small (suc k)))
 
 -- ---- the three entries that a row has
 
@@ -83,20 +88,7 @@ unfolding diagonal_moduli
 moduli_from-first zero s l = absurd (omega arith)
 moduli_from-first (suc n) s l = let less : suc n - 1 ≡ n = omega arith in ap (λ (m : ℕ). 1 ∷ replicate m s) less
 
--- ---- two and three numbers in five places
-
-pub five_of-2 : (xs : List ℕ) → length xs ≡ 2 → (get_or xs 0 0 ∷ get_or xs 1 0 ∷ 0 ∷ 0 ∷ 0 ∷ []) ≡ five xs
-five_of-2 [] e = absurd (omega arith)
-five_of-2 (a ∷ []) e = absurd (omega arith)
-five_of-2 (a ∷ b ∷ []) e = refl
-five_of-2 (a ∷ b ∷ c ∷ xs) e = absurd (omega arith)
-
-pub five_of-3 : (xs : List ℕ) → length xs ≡ 3 → (get_or xs 0 0 ∷ get_or xs 1 0 ∷ get_or xs 2 0 ∷ 0 ∷ 0 ∷ []) ≡ five xs
-five_of-3 [] e = absurd (omega arith)
-five_of-3 (a ∷ []) e = absurd (omega arith)
-five_of-3 (a ∷ b ∷ []) e = absurd (omega arith)
-five_of-3 (a ∷ b ∷ c ∷ []) e = refl
-five_of-3 (a ∷ b ∷ c ∷ x ∷ xs) e = absurd (omega arith)
+-- ---- moduli of two and three dimensions
 
 pub moduli_of-2 : (s : ℕ) → diagonal_moduli 2 s ≡ 1 ∷ s ∷ []
 unfolding diagonal_moduli

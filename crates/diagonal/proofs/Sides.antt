@@ -9,6 +9,8 @@ use native.Mathlib.Decide.{dec_lt}
 use native.Mathlib.Omega.{arith}
 use lib.Dec.{leb, eqb}
 use lib.ListN.{length, get_or, replicate, length-replicate, get_or-replicate}
+use Rattle.std.specs.Prelude.{Option, None, Some}
+use Rattle.std.proofs.lemmas.Option.{none-some, same_Some}
 use Rattle.multipartition.specs.Cuts.{Fits}
 use Rattle.multipartition.specs.Lists.{first_such}
 use Rattle.multipartition.specs.Plans.{between}
@@ -114,25 +116,26 @@ suits_iff d p l = ((λ e. told ((suits_facts d p).0 e)), ⊎_elim (λ two. of-2 
 
 -- ---- the side that the code finds
 
-pub unsuited : (d p : ℕ) → (suits d p ≡ true → ⊥) → suited_side d p ≡ p + 1
-unsuited d p h = by_cond (λ (m : ℕ). m ≡ p + 1) (suits d p) (side_of d p) (p + 1) (λ e. absurd (h e)) (λ e. refl)
+pub unsuited : (d p : ℕ) → (suits d p ≡ true → ⊥) → None ≡ suited_side d p
+unsuited d p h = by_cond (λ (m : Option ℕ). None ≡ m) (suits d p) (Some (side_of d p)) None (λ e. absurd (h e)) (λ e. refl)
 
 -- for d = n + 2, which is 2 or 3
-suited_is : (n p s : ℕ) → n ≤ 1 → zero < p → s ^ suc n ≡ p → suited_side (suc (suc n)) p ≡ s
-suited_is n p s few l e = rw (suits_of n p s few l e) (side_is n p s l e)
+suited_is : (n p s : ℕ) → n ≤ 1 → zero < p → s ^ suc n ≡ p → suited_side (suc (suc n)) p ≡ Some s
+suited_is n p s few l e = rw (suits_of n p s few l e) (ap Some (side_is n p s l e))
 
 -- p cuts each way for d = 2
-pub suited-2 : (p : ℕ) → zero < p → suited_side 2 p ≡ p
+pub suited-2 : (p : ℕ) → zero < p → suited_side 2 p ≡ Some p
 suited-2 p l = suited_is 0 p p (omega arith) l (power-one p)
 
 -- what the side says
-pub suited_above : (d p : ℕ) → p < suited_side d p → suits d p ≡ false
-suited_above d p =
-    by_cond (λ (m : ℕ). p < m → suits d p ≡ false) (suits d p) (side_of d p) (p + 1) (λ e l. absurd (omega (arith, ((suits_facts d p).0 e).side_high))) (λ e l. e)
+pub suited_none : (d p : ℕ) → None ≡ suited_side d p → suits d p ≡ false
+suited_none d p =
+    by_cond (λ (m : Option ℕ). None ≡ m → suits d p ≡ false) (suits d p) (Some (side_of d p)) None (λ e h. absurd (none-some _ h)) (λ e h. e)
 
-pub suited_within : (d p : ℕ) → suited_side d p ≤ p → (suits d p ≡ true) × (suited_side d p ≡ side_of d p)
-suited_within d p =
-    by_cond (λ (m : ℕ). m ≤ p → (suits d p ≡ true) × (m ≡ side_of d p)) (suits d p) (side_of d p) (p + 1) (λ e l. (e, refl)) (λ e l. absurd (omega arith))
+pub suited_some : (d p s : ℕ) → Some s ≡ suited_side d p → (suits d p ≡ true) × (s ≡ side_of d p)
+suited_some d p s =
+    by_cond (λ (m : Option ℕ). Some s ≡ m → (suits d p ≡ true) × (s ≡ side_of d p)) (suits d p) (Some (side_of d p)) None
+    (λ e h. (e, same_Some _ _ h)) (λ e h. absurd (none-some _ (sym h)))
 
 -- ---- the square root
 
@@ -147,13 +150,13 @@ root_high p s high l = go (dec_lt 64 s)
 pub square_fits : (s : ℕ) → s ≤ 72 → s * s < 2 ^ 32
 square_fits s h = let high : s * s ≤ 72 * 72 = mul-le-mul h h in omega arith
 
-pub root-found : (p s : ℕ) → 1 ≤ p → s * s ≡ p → s ≡ suited_side 3 p
+pub root-found : (p s : ℕ) → 1 ≤ p → s * s ≡ p → Some s ≡ suited_side 3 p
 root-found p s l e = sym (suited_is 1 p s (omega arith) l (square s ∙ e))
 
 -- s is the last number whose square is at most p
-pub root_none : (p s : ℕ) → s * s < p → p < (s + 1) * (s + 1) → p + 1 ≡ suited_side 3 p
+pub root_none : (p s : ℕ) → s * s < p → p < (s + 1) * (s + 1) → None ≡ suited_side 3 p
 root_none p s below above =
-    sym (unsuited 3 p (λ suit. not_root (side_of 3 p) (sym (square (side_of 3 p)) ∙ side_power 1 p ((suits_facts 3 p).0 suit).side_high)))
+    unsuited 3 p (λ suit. not_root (side_of 3 p) (sym (square (side_of 3 p)) ∙ side_power 1 p ((suits_facts 3 p).0 suit).side_high))
   where
     not_root : (i : ℕ) → i * i ≢ p
     not_root i e = go (dec_lt s i)

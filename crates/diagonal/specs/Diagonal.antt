@@ -1,6 +1,6 @@
 -- The diagonal layouts (document 02, request c; source document 001, section 2), for every number of dimensions at once: s slabs each way, and s to
 -- the power d - 1 processors.
-use Rattle.std.specs.Prelude.{Bool, cond, not, ◌&&◌, List, [], ◌∷◌, ◌≡◌, ℕ, zero, suc, ◌+◌, ◌-◌, ◌*◌, ◌%◌, ◌^◌, ◌≤◌, leb, eqb, length, get_or, replicate}
+use Rattle.std.specs.Prelude.{Bool, cond, not, ◌&&◌, Option, None, Some, List, [], ◌∷◌, ◌≡◌, ℕ, zero, suc, ◌+◌, ◌-◌, ◌*◌, ◌%◌, ◌^◌, ◌≤◌, leb, eqb, length, get_or, replicate}
 use Rattle.numbers.specs.Sums.{same}
 use Rattle.multipartition.specs.Answers.{Answer, answered, Check, checked}
 use Rattle.multipartition.specs.Lists.{all_below, first_such, list_of}
@@ -64,9 +64,9 @@ side_of d p = first_such (is_side d p) 1 p
 unfoldable pub suits : ℕ → ℕ → Bool
 suits d p = between 2 3 d && leb (side_of d p) p
 
--- the side where p and d suit the layout, else p + 1
-abbrev pub suited_side : ℕ → ℕ → ℕ
-suited_side d p = cond (suits d p) (side_of d p) (p + 1)
+-- the side where p and d suit the layout
+abbrev pub suited_side : ℕ → ℕ → Option ℕ
+suited_side d p = cond (suits d p) (Some (side_of d p)) None
 
 -- "Cuts fit only if bk times the least thickness of k is at most nk, .. for diagonal plans" (request g)
 unfoldable pub side_fits : ℕ → List ℕ → List ℕ → Bool

@@ -1,17 +1,19 @@
 // The diagonal layouts: the answer to a job is a diagonal plan or a refusal.
 #![tactic(auto)]
 
-ghost use Rattle.std.specs.Prelude.{◌≡◌, ◌++◌, ◌∷◌, ◌-◌, ◌*◌, ◌^◌, ◌≤◌, leb, length, replicate, take};
-ghost use Rattle.multipartition.specs.Cuts.{cut_cost, cost_of};
-ghost use Rattle.multipartition.specs.Plans.{least_of, job_with};
+ghost use Rattle.std.specs.Prelude.{◌≡◌, ◌++◌, ◌∷◌, ◌-◌, ◌*◌, ◌≤◌, leb, length, replicate, sum, take};
+ghost use Rattle.multipartition.specs.Cuts.{cost_of};
+ghost use Rattle.refusals.specs.Told.{told};
 ghost use Rattle.layout.specs.Plans.{five, flat, plan_of};
-ghost use Rattle.planner.specs.Planned.{planned_of};
+ghost use Rattle.planner.specs.Asked.{asked};
+ghost use Rattle.planner.specs.Planned.{planned_answer, passed_job};
 ghost use Rattle.diagonal.specs.Diagonal.{diagonal_cuts, diagonal_matrix, diagonal_plan, suited_side, side_fits, diagonal_answer};
 
 use layout::Plan;
-use planner::{Planned, first_outside, first_zero, refused};
+use planner::{Job, PassedJob, padded};
+use refusals::Refusal;
 
-// A number whose square is at most p, in steps of eight.
+// A number whose square is at most p, in steps of eight: from it and `square_side` the root is found sooner than by `isqrt`, a search by halves.
 fn root_by_eights(p: u32) -> u32
     requires { p ≤ 4096 }
     ensures { (result ≤ 64) × (result * result ≤ p) }
@@ -23,8 +25,8 @@ fn root_by_eights(p: u32) -> u32
     s
 }
 
-// The s with s * s = p; p + 1 if there is none.
-fn square_side(p: u32) -> u32
+// The s with s * s = p, if there is one.
+fn square_side(p: u32) -> Option<u32>
     requires { (1 ≤ p) × (p ≤ 4096) }
     ensures { result ≡ suited_side 3 p }
 {
@@ -32,73 +34,45 @@ fn square_side(p: u32) -> u32
     while (s + 1) * (s + 1) <= p {
         s = s + 1;
     }
-    if s * s == p {
-        return s;
-    }
-    p + 1
+    if s * s == p { Some(s) } else { None }
 }
 
-// The side of the layout for p processors: p in two dimensions, the square root of p in three; p + 1 where p or d does not suit it.
-fn side_of(d: usize, p: u32) -> u32
+// The side of the layout for p processors: p in two dimensions, the square root of p in three. Else p or d does not suit it.
+fn side_of(d: usize, p: u32) -> Option<u32>
     requires { (2 ≤ d) × (1 ≤ p) × (p ≤ 4096) }
     ensures { result ≡ suited_side d p }
 {
-    if d == 2 {
-        return p;
+    match d {
+        2 => Some(p),
+        3 => square_side(p),
+        _ => None,
     }
-    if d == 3 {
-        return square_side(p);
-    }
-    p + 1
 }
 
 // Whether s slabs of a least thickness fit an extent.
 fn slabs_fit(s: u32, extent: u32, least: u32) -> bool
     ensures { result ≡ leb (s * least) extent }
 {
-    s as u64 * least as u64 <= extent as u64
+    u64::from(s) * u64::from(least) <= u64::from(extent)
 }
 
 // Whether s cuts each way fit, with these least thicknesses.
 fn side_fits(s: u32, extents: &[u32], least: &[u32]) -> bool
-    requires { length least.now ≡ length extents.now }
+    requires { length extents.now ≤ length least.now }
     ensures { result ≡ side_fits s extents.now least.now }
 {
-    let mut ok = true;
-    for k in 0..extents.len() {
-        ok = ok & slabs_fit(s, extents[k], least[k]);
-    }
-    ok
+    extents
+        .iter()
+        .zip(least)
+        .all(|(extent, least)| slabs_fit(s, *extent, *least))
 }
 
-// Whether they fit with slabs of any thickness.
-fn side_within(s: u32, extents: &[u32]) -> bool
-    ensures { result ≡ side_fits s extents.now (replicate (length extents.now) 1) }
+// The sum of the weights.
+fn total(weights: &[u32]) -> u64
+    requires { length weights.now ≤ 3 }
+    ensures { result ≡ sum weights.now }
 {
-    let mut ok = true;
-    for k in 0..extents.len() {
-        ok = ok & (s <= extents[k]);
-    }
-    ok
-}
-
-// Whether they fit, by the list of thicknesses given.
-fn cuts_fit(s: u32, extents: &[u32], given: &[u32]) -> bool
-    requires { length (least_of (length extents.now) given.now) ≡ length extents.now }
-    ensures { result ≡ side_fits s extents.now (least_of (length extents.now) given.now) }
-{
-    if given.len() == 0 {
-        return side_within(s, extents);
-    }
-    side_fits(s, extents, given)
-}
-
-// What a dimension of weight w costs with s cuts.
-fn cut_cost(s: u32, w: u32) -> u64
-    requires { (1 ≤ s) × (s ≤ 4096) }
-    ensures { (result ≡ cut_cost s w) × (result ≤ 2 ^ 44) }
-{
-    (s - 1) as u64 * w as u64
+    weights.iter().map(|w| u64::from(*w)).sum()
 }
 
 // What s cuts each way cost.
@@ -106,22 +80,7 @@ fn cost_of(s: u32, weights: &[u32]) -> u64
     requires { (1 ≤ s) × (s ≤ 4096) × (length weights.now ≤ 3) }
     ensures { result ≡ cost_of weights.now (diagonal_cuts (length weights.now) s) }
 {
-    let mut cost: u64 = 0;
-    for k in 0..weights.len() {
-        cost = cost + cut_cost(s, weights[k]);
-    }
-    cost
-}
-
-// Two or three numbers, with zeros after them. They are named one by one: after a copy of the whole list, a single number of it takes long to read.
-fn padded(numbers: &[u32]) -> [u32; 5]
-    requires { (2 ≤ length numbers.now) × (length numbers.now ≤ 3) }
-    ensures { result ≡ five numbers.now }
-{
-    if numbers.len() == 2 {
-        return [numbers[0], numbers[1], 0, 0, 0];
-    }
-    [numbers[0], numbers[1], numbers[2], 0, 0]
+    u64::from(s - 1) * total(weights)
 }
 
 // The number `first` and d - 1 times s, with zeros after them: the cuts and the moduli.
@@ -129,10 +88,7 @@ fn with_sides(d: usize, first: u32, s: u32) -> [u32; 5]
     requires { (2 ≤ d) × (d ≤ 3) }
     ensures { result ≡ five (first ∷ replicate (d - 1) s) }
 {
-    if d == 2 {
-        return [first, s, 0, 0, 0];
-    }
-    [first, s, s, 0, 0]
+    padded(&[first, s, s][..d])
 }
 
 // The matrix, its rows five places apart: row 1 is zero; row 2 is 1 s-1 in two dimensions; in three, row 2 is 1 0 s-1 and row 3 is 0 1 s-1. Modulo
@@ -153,27 +109,22 @@ fn matrix_of(d: usize, s: u32) -> [u32; 25]
     matrix
 }
 
-// The least thicknesses of two or three dimensions: those given, or ones where none is given.
-fn thicknesses(d: usize, given: &[u32]) -> [u32; 5]
-    requires { (2 ≤ d) × (d ≤ 3) × (length (least_of d given.now) ≡ d) }
-    ensures { result ≡ five (least_of d given.now) }
+// The plan with s cuts each way, by its least thicknesses.
+fn plan_with(s: u32, passed: PassedJob, least: [u32; 5]) -> Plan
+    requires in_bounds { (passed.job.d ≤ 3) × (1 ≤ s) × (s ≤ 4096) }
+    requires thickness { least ≡ five (passed_job passed).least }
+    ensures { result ≡ plan_of (diagonal_plan (passed_job passed.entry) s) }
 {
-    if given.len() == 0 {
-        return with_sides(d, 1, 1);
-    }
-    padded(given)
-}
-
-// The plan with s cuts each way.
-fn plan_with(p: u32, s: u32, extents: &[u32], weights: &[u32], given: &[u32]) -> Plan
-    requires in_bounds { (2 ≤ length extents.now) × (length extents.now ≤ 3) × (length weights.now ≡ length extents.now) × (1 ≤ s) × (s ≤ 4096) }
-    requires given_len { length (least_of (length extents.now) given.now) ≡ length extents.now }
-    ensures { result ≡ plan_of (diagonal_plan (job_with p (length extents.now) extents.now weights.now given.now) s) }
-{
-    let d = extents.len();
+    let Job {
+        p,
+        d,
+        extents,
+        weights,
+        least: _,
+    } = passed.job;
     Plan {
-        d: d,
-        p: p,
+        d,
+        p,
         extents: padded(extents),
         weights: padded(weights),
         cuts: with_sides(d, s, s),
@@ -181,41 +132,20 @@ fn plan_with(p: u32, s: u32, extents: &[u32], weights: &[u32], given: &[u32]) ->
         moduli: with_sides(d, 1, s),
         matrix: matrix_of(d, s),
         kind: 1,
-        least: thicknesses(d, given),
+        least,
     }
 }
 
-// The answer to a job: its diagonal plan. An empty list of least thicknesses stands for 1 in every dimension.
-pub fn diagonal_job(p: u32, d: usize, extents: &[u32], weights: &[u32], least: &[u32]) -> Planned
-    ensures { result ≡ planned_of (diagonal_answer (job_with p d extents.now weights.now least.now)) }
+// The answer to a job: its diagonal plan.
+pub fn diagonal_job(job: Job) -> Result<Plan, Refusal>
+    ensures { told result ≡ planned_answer (diagonal_answer (asked job.entry)) }
 {
-    if (d < 2) | (5 < d) {
-        return refused(1, 0);
+    job.sizes_checked()?;
+    let s = side_of(job.d, job.p).ok_or(Refusal::Unsuited)?;
+    let passed = job.lists_checked()?;
+    let least = passed.thicknesses();
+    if !side_fits(s, job.extents, &least) {
+        return Err(Refusal::NoCuts);
     }
-    if (p < 1) | (4096 < p) {
-        return refused(2, 0);
-    }
-    let s = side_of(d, p);
-    if p < s {
-        return refused(12, 0);
-    }
-    if (extents.len() != d) | (weights.len() != d) | ((least.len() != 0) & (least.len() != d)) {
-        return refused(3, 0);
-    }
-    let outside = first_outside(extents);
-    if outside != 0 {
-        return refused(4, outside);
-    }
-    let zero = first_zero(least);
-    if zero != 0 {
-        return refused(13, zero);
-    }
-    if !cuts_fit(s, extents, least) {
-        return refused(5, 0);
-    }
-    Planned {
-        number: 0,
-        place: 0,
-        plan: plan_with(p, s, extents, weights, least),
-    }
+    Ok(plan_with(s, passed, least))
 }

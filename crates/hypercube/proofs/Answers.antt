@@ -7,17 +7,19 @@ use mathlib.Core.List.{List, [], ◌∷◌}
 use Prim.Native.Nat.{ℕ, zero, ◌+◌, ◌*◌, ◌%◌, ◌^◌, ◌≤◌, ◌<◌}
 use native.Mathlib.Nat.{one-le-pow}
 use native.Mathlib.Omega.{arith}
-use borrow.Author.Tests.{leb-true, le-leb, lt-leb, not-false}
+use borrow.Author.Tests.{leb-true, le-leb, not-false}
 use lib.Dec.{leb}
 use lib.ListN.{get_or}
+use Rattle.std.specs.Prelude.{Some, None}
+use Rattle.multipartition.specs.Plans.{between}
 use Rattle.multipartition.specs.Answers.{answered, refused}
 use Rattle.multipartition.specs.Tiles.{Inside, is_inside}
 use Rattle.multipartition.specs.Rivals.{Face}
-use Rattle.multipartition.proofs.Tests.{between-true_iff, outside_range, outside-range}
+use Rattle.multipartition.proofs.Tests.{between-true_iff}
 use Rattle.multipartition.proofs.Answers.{FirstFails, checked_passed, checked_refused, answers_iff}
 use Rattle.multipartition.proofs.Tiles.{inside_of_test, test_of_inside}
-use Rattle.hypercube.specs.Hypercube.{gray, hypercube_cuts, hypercube_owner, bits_apart, bits_along, exponent_of, hypercube_checks, hypercube_answer}
-use Rattle.hypercube.proofs.Exponents.{powers_high, exponent_iff, side_test}
+use Rattle.hypercube.specs.Hypercube.{gray, hypercube_cuts, hypercube_owner, bits_apart, bits_along, exponent_of, side_of, hypercube_checks, hypercube_answer}
+use Rattle.hypercube.proofs.Exponents.{powers_high, exponent_iff, unsuited_lem, suited_lem}
 use Rattle.hypercube.proofs.Hypercube.{hypercube_owner_below, hypercube_faces}
 
 -- ---- the checks of the code, one after the other
@@ -27,36 +29,33 @@ module _ (p : ℕ) (x : List ℕ) where
   unfolding hypercube_answer
   first_fails_lem = checked_refused (hypercube_checks p x) (answered (hypercube_owner (exponent_of p) x))
 
-  pub refused-2 : outside_range 1 4096 p ≡ true → hypercube_answer p x ≡ refused 2 0
-  refused-2 e = first_fails_lem 2 0 (inl (outside-range 1 4096 p ∙ e, refl, refl))
+  pub refused-2 : between 1 4096 p ≡ false → hypercube_answer p x ≡ refused 2 0
+  refused-2 e = first_fails_lem 2 0 (inl (ap not e, refl, refl))
 
-  module _ (p-in : outside_range 1 4096 p ≡ false) (side : ℕ) (e : side ≡ 2 ^ exponent_of p) where
-    suits : leb (exponent_of p) 6 ≡ leb side 64
-    suits = side_test (exponent_of p) ∙ ap (λ (n : ℕ). leb n 64) (sym e)
+  module _ (p-in : between 1 4096 p ≡ true) where
+    pub refused-12 : side_of p ≡ None → hypercube_answer p x ≡ refused 12 0
+    refused-12 e = first_fails_lem 12 0 (inr (ap not p-in, inl (ap not (unsuited_lem p e), refl, refl)))
 
-    cuts_are : hypercube_cuts (exponent_of p) ≡ side ∷ side ∷ side ∷ []
-    unfolding hypercube_cuts
-    cuts_are = ap (λ (n : ℕ). n ∷ n ∷ n ∷ []) (sym e)
+    module _ (side : ℕ) (e : side_of p ≡ Some side) where
+      suits : not (leb (exponent_of p) 6) ≡ false
+      suits = ap not (le-leb (exponent_of p) 6 (suited_lem p side e).0)
 
-    pub refused-12 : 64 < side → hypercube_answer p x ≡ refused 12 0
-    refused-12 l = first_fails_lem 12 0 (inr (outside-range 1 4096 p ∙ p-in, inl (ap not (suits ∙ lt-leb side 64 l), refl, refl)))
-
-    module _ (small : side ≤ 64) where
-      suits_pass : not (leb (exponent_of p) 6) ≡ false
-      suits_pass = ap not (suits ∙ le-leb side 64 small)
+      pub side_high : side ≤ 64
+      side_high = omega (arith, (suited_lem p side e).1, (powers_high (exponent_of p) (suited_lem p side e).0).1)
 
       inside_is : (b : Bool) → is_inside (side ∷ side ∷ side ∷ []) x ≡ b → not (is_inside (hypercube_cuts (exponent_of p)) x) ≡ not b
-      inside_is b i = ap not (ap (λ (cuts : List ℕ). is_inside cuts x) cuts_are ∙ i)
+      unfolding hypercube_cuts
+      inside_is b i = ap not (ap (λ (n : ℕ). is_inside (n ∷ n ∷ n ∷ []) x) (sym (suited_lem p side e).1) ∙ i)
 
       pub refused_8 : is_inside (side ∷ side ∷ side ∷ []) x ≡ false → hypercube_answer p x ≡ refused 8 0
-      refused_8 o = first_fails_lem 8 0 (inr (outside-range 1 4096 p ∙ p-in, inr (suits_pass, inl (inside_is false o, refl, refl))))
+      refused_8 o = first_fails_lem 8 0 (inr (ap not p-in, inr (suits, inl (inside_is false o, refl, refl))))
 
       pub owned : is_inside (side ∷ side ∷ side ∷ []) x ≡ true
           → hypercube_answer p x ≡ answered (gray ((get_or x 1 0 + get_or x 2 0) % side) * side + gray ((get_or x 0 0 + get_or x 2 0) % side))
       unfolding hypercube_answer hypercube_owner
       owned i =
-          checked_passed (hypercube_checks p x) (answered (hypercube_owner (exponent_of p) x)) (outside-range 1 4096 p ∙ p-in, (suits_pass, (inside_is true i, tt)))
-          ∙ ap (λ (n : ℕ). answered (gray ((get_or x 1 0 + get_or x 2 0) % n) * n + gray ((get_or x 0 0 + get_or x 2 0) % n))) (sym e)
+          checked_passed (hypercube_checks p x) (answered (hypercube_owner (exponent_of p) x)) (ap not p-in, (suits, (inside_is true i, tt)))
+          ∙ ap (λ (n : ℕ). answered (gray ((get_or x 1 0 + get_or x 2 0) % n) * n + gray ((get_or x 0 0 + get_or x 2 0) % n))) (sym (suited_lem p side e).1)
 
 -- ---- what an answer says
 

@@ -1,17 +1,18 @@
 -- The exponent of a number of processors: 4 to its power is p, the search for it goes from number to number, and the side says whether there is one.
 use mathlib.Core.Path.{◌≡◌, refl, sym, ap, ◌∙◌, subst}
 use mathlib.Core.Logic.{◌≢◌, ◌↔◌}
-use mathlib.Core.Bool.{true}
+use mathlib.Core.Bool.{Bool, true, false, cond}
 use Prim.Native.Nat.{ℕ, zero, suc, ◌+◌, ◌*◌, ◌-◌, ◌^◌, ◌≤◌, ◌<◌}
 use native.Mathlib.Nat.{pow-le-pow_right, pow-suc, pow-succ', one-le-pow}
-use native.Mathlib.Decide.{dec_le, dec_lt}
+use native.Mathlib.Decide.{dec_lt}
 use native.Mathlib.Omega.{arith}
-use borrow.Author.Tests.{ne_eqb, le-leb, lt-leb}
+use borrow.Author.Tests.{ne_eqb, le-leb, lt-leb, leb-true}
 use lib.Dec.{leb}
+use Rattle.std.specs.Prelude.{Option, Some, None, unwrap_or, option_map}
 use Rattle.multipartition.specs.Lists.{first_such}
 use Rattle.multipartition.proofs.Searches.{first_such-next, first_such_passes, first_such_only}
 use Rattle.multipartition.proofs.Tests.{eqb_iff}
-use Rattle.hypercube.specs.Hypercube.{is_exponent, exponent_of}
+use Rattle.hypercube.specs.Hypercube.{is_exponent, exponent_of, side_of}
 
 -- ---- powers of 4 and of 2
 
@@ -74,13 +75,28 @@ module _ (p : ℕ) where
 
 -- ---- the side, 2 to the power of the exponent
 
-pub side_test : (e : ℕ) → leb e 6 ≡ leb (2 ^ e) 64
-side_test e = go (dec_le e 6)
-  where
-    go : Dec (e ≤ 6) → leb e 6 ≡ leb (2 ^ e) 64
-    go (yes h) = rw (le-leb e 6 h, le-leb (2 ^ e) 64 (powers_high e h).1)
-    go (no h) =
-        let high : 7 ≤ e = omega arith in
-        let two : zero < 2 = omega arith in
-        let large : 128 ≤ 2 ^ e = pow-le-pow_right two high in
-        rw (lt-leb e 6 (omega arith), lt-leb (2 ^ e) 64 (omega (arith, large)))
+module _ (p : ℕ) where
+  pub a_side : (e : ℕ) → e ≤ 6 → exponent_of p ≡ e → side_of p ≡ Some (2 ^ e)
+  unfolding side_of
+  a_side e h q = rw (q, le-leb e 6 h)
+
+  pub no_side : (e : ℕ) → e ≡ 7 → exponent_of p ≡ e → side_of p ≡ None
+  unfolding side_of
+  no_side e h q = rw (q, lt-leb e 6 (omega (arith, h)))
+
+  -- there is a side just where there is an exponent
+  pub unsuited_lem : side_of p ≡ None → leb (exponent_of p) 6 ≡ false
+  unfolding side_of
+  unsuited_lem h = go (leb (exponent_of p) 6) h
+    where
+      go : (b : Bool) → cond b (Some (2 ^ exponent_of p)) None ≡ None → b ≡ false
+      go true e = let clash : ◌≡◌ {A = ℕ} 0 1 = ap (λ (o : Option ℕ). unwrap_or (option_map (λ _. 0) o) 1) e in absurd (omega (arith, clash))
+      go false e = refl
+
+  pub suited_lem : (side : ℕ) → side_of p ≡ Some side → (exponent_of p ≤ 6) × (side ≡ 2 ^ exponent_of p)
+  unfolding side_of
+  suited_lem side h = go (leb (exponent_of p) 6) refl h
+    where
+      go : (b : Bool) → leb (exponent_of p) 6 ≡ b → cond b (Some (2 ^ exponent_of p)) None ≡ Some side → (exponent_of p ≤ 6) × (side ≡ 2 ^ exponent_of p)
+      go true l e = (leb-true (exponent_of p) 6 l, sym (ap (λ (o : Option ℕ). unwrap_or o 0) e))
+      go false l e = let clash : ◌≡◌ {A = ℕ} 1 0 = ap (λ (o : Option ℕ). unwrap_or (option_map (λ _. 0) o) 1) e in absurd (omega (arith, clash))

@@ -1,5 +1,5 @@
 -- The hypercube layout (document 02, request c). A position's places are counted from 0: i1 stands at place 0.
-use Rattle.std.specs.Prelude.{Bool, List, [], ◌∷◌, ℕ, zero, suc, ◌+◌, ◌*◌, ◌/◌, ◌%◌, ◌^◌, leb, eqb, get_or}
+use Rattle.std.specs.Prelude.{Bool, cond, List, [], ◌∷◌, ℕ, zero, suc, ◌+◌, ◌*◌, ◌/◌, ◌%◌, ◌^◌, leb, eqb, get_or, Option, Some, None}
 use Rattle.std.specs.Int.Bits.{bit_xor}
 use Rattle.multipartition.specs.Answers.{Answer, answered, Check, checked}
 use Rattle.multipartition.specs.Lists.{first_such}
@@ -51,6 +51,10 @@ is_exponent p e = eqb (4 ^ e) p
 -- that e, "from 0 to 6", and 7 where there is none
 unfoldable pub exponent_of : ℕ → ℕ
 exponent_of p = first_such (is_exponent p) 0 7
+
+-- 2 to the power of that e, if there is one
+unfoldable pub side_of : ℕ → Option ℕ
+side_of p = cond (leb (exponent_of p) 6) (Some (2 ^ exponent_of p)) None
 
 -- "New numbers: 12, p or d doesn't suit the layout, after 2 and before 3": 2, then 12, then 8
 abbrev pub hypercube_checks : ℕ → List ℕ → List Check

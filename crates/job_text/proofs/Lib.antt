@@ -4,4 +4,3 @@ pub mod Runs
 pub mod Finds
 pub mod Front
 pub mod Readings
-pub mod Answers

@@ -1,29 +1,15 @@
--- What the answer of `read_job` says, by the cases of its enum.
-use Rattle.std.specs.Prelude.{◌≡◌, List, ◌++◌, ℕ, ◌-◌, length, take, replicate}
-use Rattle.multipartition.specs.Answers.{Answer, answered, refused}
-use Rattle.job_text.specs.Readable.{most_numbers, Finds}
-use Rattle.job_text.specs.declared.Line.{Line}
-use Rattle.job_text.specs.declared.Line.TheVariants.{Numbers, Unreadable}
-use Rattle.job_text.specs.declared.JobLine.{JobLine}
+-- What the answer of `read_job` says.
+use Rattle.std.specs.Prelude.{Result, List, ℕ}
+use Rattle.arrayvec.specs.ArrayVec.{ArrayVec}
+use Rattle.refusals.specs.declared.Refusal.{Refusal}
+use Rattle.refusals.specs.Told.{told_by}
+use Rattle.multipartition.specs.Answers.{Answer}
+use Rattle.job_text.specs.Readable.{Finds}
 
--- the first `count` numbers, or refusal 10 with the place
-abbrev pub told_by : Line → List ℕ → ℕ → Answer (List ℕ)
-told_by (Numbers count) numbers place = answered (take count numbers)
-told_by Unreadable numbers place = refused 10 place
+-- the numbers of the line, or the refusal
+abbrev pub told : Result (ArrayVec ℕ) Refusal → Answer (List ℕ)
+told = told_by (λ numbers. numbers.items)
 
-abbrev pub told : JobLine → Answer (List ℕ)
-told r = told_by r.line r.numbers r.place
-
--- numbers with zeros after them, as many places as a line can have numbers
-abbrev pub padded : List ℕ → List ℕ
-padded numbers = numbers ++ replicate (most_numbers - length numbers) 0
-
--- the answer that says so: "every other part of the answer is zero"
-abbrev pub job_line_of : Answer (List ℕ) → JobLine
-job_line_of (answered numbers) = record { line = Numbers (length numbers); numbers = padded numbers; place = 0 }
-job_line_of (refused number place) = record { line = Unreadable; numbers = replicate most_numbers 0; place = place }
-
--- the answer to a text: it says what is found there, and is zero elsewhere
-pub record Reads (text : List ℕ) (r : JobLine) : Type 0 where
-  pub finds : Finds text (told r)
-  pub zeros : r ≡ job_line_of (told r)
+-- the answer to a text: it says what is found there
+abbrev pub Reads : List ℕ → Result (ArrayVec ℕ) Refusal → Type 0
+Reads text result = Finds text (told result)

@@ -14,7 +14,7 @@ use Rattle.numbers.specs.Products.{product}
 use Rattle.multipartition.specs.Lists.{all_below}
 use Rattle.multipartition.specs.Plans.{between, dimension_ok, least_ok, in_shape, InShape}
 use Rattle.multipartition.proofs.Plans.{dimension_iff, least_ok_iff, in_shape_iff}
-use Rattle.multipartition.proofs.Tests.{and_iff, all_iff, ltb_iff, between-true_iff}
+use Rattle.multipartition.proofs.Tests.{and-true_iff, and_iff, all_iff, ltb_iff, between-true_iff}
 use Rattle.layout.specs.declared.Plan.{Plan}
 use Rattle.layout.specs.Plans.{layout_of}
 use Rattle.layout.specs.Shaped.{entry_of, row_fits, place_fits, Ranges, Factors, Shaped}
@@ -208,3 +208,24 @@ passed_all plan ranges k tiles processors low high h =
     shaped plan ((in_shape_iff (layout_of plan)).1
     (in_shape_of_places plan ranges (all-at plan.d _ places) (rw tiles_is at (leb-true tiles 16777216 t.0)) (sym processors_is ∙ eqb-true _ _ t.1))))
     (λ s. rw (le-leb tiles 16777216 (rw (← tiles_is) at s.tiles_high)) (eq-eqb _ _ (processors_is ∙ s.moduli_product)))
+
+-- ---- d, p and the kind as one test
+
+pub ranges_iff : (d p kind : ℕ) → (between 2 5 d && between 1 4096 p && leb kind 1 ≡ true) ↔ Ranges d p kind
+ranges_iff d p kind = (
+  (λ e.
+      let two = (and-true_iff (between 2 5 d && between 1 4096 p) (leb kind 1)).0 e in
+      let one = (and-true_iff (between 2 5 d) (between 1 4096 p)).0 two.0 in
+      let dims = (between-true_iff 2 5 d).0 one.0 in
+      let processors = (between-true_iff 1 4096 p).0 one.1 in
+      record { d_low = dims.0; d_high = dims.1; p_low = processors.0; p_high = processors.1; kind_high = leb-true _ _ two.1 }),
+  λ r.
+      (and-true_iff (between 2 5 d && between 1 4096 p) (leb kind 1)).1 (
+        (and-true_iff (between 2 5 d) (between 1 4096 p)).1
+            ((between-true_iff 2 5 d).1 (r.d_low, r.d_high), (between-true_iff 1 4096 p).1 (r.p_low, r.p_high)),
+        le-leb _ _ r.kind_high,
+      ),
+)
+
+pub ranges_of_shaped : (plan : Plan) → Shaped plan → Ranges plan.d plan.p plan.kind
+ranges_of_shaped plan s = record { d_low = s.d_low; d_high = s.d_high; p_low = s.p_low; p_high = s.p_high; kind_high = s.kind_high }

@@ -1,6 +1,7 @@
 -- A plan by its lists, lent to a call that copies none of them.
 use Rattle.std.specs.Prelude.{Bool, ◌&&◌, cond, List, [], ◌≡◌, ℕ, eqb, length}
 use Rattle.layout.specs.declared.Plan.{Plan}
+use Rattle.layout.specs.declared.PlanLists.{PlanLists}
 use Rattle.layout.specs.Plans.{no_plan}
 
 -- the lists have the places that a plan's have
@@ -35,3 +36,18 @@ lent_plan d p kind extents cuts moduli matrix least = record {
 unfoldable pub plan_over : ℕ → ℕ → ℕ → List ℕ → List ℕ → List ℕ → List ℕ → List ℕ → Plan
 plan_over d p kind extents cuts moduli matrix least =
     cond (is_lent extents cuts moduli matrix least) (lent_plan d p kind extents cuts moduli matrix least) no_plan
+
+-- the plan of a plan's lists, lent
+abbrev pub plan_lent : PlanLists → Plan
+plan_lent lists = plan_over lists.d lists.p lists.kind lists.extents.now lists.cuts.now lists.moduli.now lists.matrix.now lists.least.now
+
+-- the lists of a plan, lent
+pub record Lends (plan : Plan) (lists : PlanLists) : Type 0 where
+  pub d_is : lists.d ≡ plan.d
+  pub p_is : lists.p ≡ plan.p
+  pub kind_is : lists.kind ≡ plan.kind
+  pub extents_are : lists.extents.now ≡ plan.extents
+  pub cuts_are : lists.cuts.now ≡ plan.cuts
+  pub moduli_are : lists.moduli.now ≡ plan.moduli
+  pub matrix_are : lists.matrix.now ≡ plan.matrix
+  pub least_are : lists.least.now ≡ plan.least

@@ -3,3 +3,4 @@ pub mod Shaped
 pub mod Sized
 pub mod Positions
 pub mod Lent
+pub mod Checked

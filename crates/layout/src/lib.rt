@@ -1,16 +1,24 @@
-// A plan by value, and the check that it is in shape.
+// A plan by value, its lists lent, and the check that it is in shape.
 #![tactic(auto)]
 
-ghost use Rattle.std.specs.Prelude.{◌&&◌, ◌≡◌, ◌*◌, ◌<◌, ◌≤◌, leb, ltb, length, take};
+ghost use Rattle.std.specs.Prelude.{◌&&◌, ◌≡◌, ◌*◌, ◌<◌, ◌≤◌, leb, ltb, length, take, get_or};
 ghost use Rattle.numbers.specs.Products.{product};
 ghost use Rattle.multipartition.specs.Lists.{all_below};
 ghost use Rattle.multipartition.specs.Plans.{between, in_shape, tiles_of};
+ghost use Rattle.refusals.specs.Told.{told_by};
 ghost use Rattle.layout.specs.Plans.{layout_of, no_plan};
-ghost use Rattle.layout.specs.Shaped.{Ranges, entry_of, place_fits, Factors, Shaped};
-ghost use Rattle.layout.specs.Lent.{Lent, is_lent, lent_plan, plan_over};
+ghost use Rattle.layout.specs.Shaped.{Ranges, entry_of, row_fits, place_fits, Factors};
+ghost use Rattle.layout.specs.Lent.{Lent, is_lent, lent_plan, plan_lent, Lends};
+ghost use Rattle.layout.specs.Checked.{shape_answer, dimension_answer, axis_answer, axis_of};
+
+pub use crate::axes::{Axis, LentPlan, ShapedPlan};
+use refusals::Refusal;
+
+mod axes; // axes.rt: a plan in shape, and its dimensions
 
 // Lists hold dimension k at place k - 1, and row i of the matrix stands at places 5 * (i - 1) on. Places past d are zero in a plan that a call
-// answers, and are never read. The kind is 0 for the planner's plans and 1 for diagonal ones. No slab of a dimension has fewer elements than its least
+// answers, and are never read. The kind is 0 for the planner's plans and 1 for diagonal ones, a number,
+// since a plan of another kind is to be turned down and so must be possible. No slab of a dimension has fewer elements than its least
 // thickness.
 #[derive(Clone, Copy)]
 pub struct Plan {
@@ -24,6 +32,19 @@ pub struct Plan {
     pub matrix: [u32; 25],
     pub kind: u32,
     pub least: [u32; 5],
+}
+
+// The lists of a plan, lent: those that a question reads, of which nothing is copied. Lists of other lengths than a plan's are no plan's.
+#[derive(Clone, Copy)]
+pub struct PlanLists<'a> {
+    pub d: usize,
+    pub p: u32,
+    pub kind: u32,
+    pub extents: &'a [u32],
+    pub cuts: &'a [u32],
+    pub moduli: &'a [u32],
+    pub matrix: &'a [u32],
+    pub least: &'a [u32],
 }
 
 // The plan of zeros.
@@ -44,170 +65,218 @@ pub fn no_plan() -> Plan
     }
 }
 
-// Whether an extent and its cut are in range.
+// Whether an extent and its cut are in range. Here and below the tests are put together by `&`: no test waits for another, and the shape is asked for
+// with every question.
 fn dimension_ok(extent: u32, cut: u32) -> bool
     ensures { result ≡ (between 1 1000000 extent && between 1 extent cut && leb cut 4096) }
 {
-    ((1 <= extent) & (extent <= 1000000)) & ((1 <= cut) & (cut <= extent)) & (cut <= 4096)
+    (1 <= extent) & (extent <= 1000000) & (1 <= cut) & (cut <= extent) & (cut <= 4096)
 }
 
 // Whether a least thickness is not 0, and its cut times it not above its extent.
 fn least_ok(extent: u32, least: u32, cut: u32) -> bool
     ensures { result ≡ (leb 1 least && leb (cut * least) extent) }
 {
-    (1 <= least) & (cut as u64 * least as u64 <= extent as u64)
+    (1 <= least) & (u64::from(cut) * u64::from(least) <= u64::from(extent))
 }
 
-// Whether the first d entries of row i are below m.
-fn entries_below(d: usize, i: usize, m: u32, matrix: &[u32]) -> bool
-    requires { (i < 5) × (d ≤ 5) × (length matrix.now ≡ 25) }
-    ensures { result ≡ all_below d (λ j. ltb (entry_of matrix.now i j) m) }
-{
-    let row = i * 5;
-    let mut ok = true;
-    for j in 0..d {
-        let at = row + j;
-        ok = ok & (matrix[at] < m);
+impl<'a> PlanLists<'a> {
+    // Whether the lists have the places that a plan's have.
+    fn have_places(self) -> bool
+        ensures { result ≡ is_lent self.entry.extents.now self.entry.cuts.now self.entry.moduli.now self.entry.matrix.now self.entry.least.now }
+    {
+        (self.extents.len() == 5)
+            & (self.cuts.len() == 5)
+            & (self.moduli.len() == 5)
+            & (self.matrix.len() == 25)
+            & (self.least.len() == 5)
     }
-    ok
-}
 
-// Whether extent, cut, least thickness, modulus and row of dimension k + 1 are in range. A modulus above 4,096 multiplies to no p with others that are not 0.
-fn place_ok<'a>(
-    d: usize,
-    k: usize,
-    extents: &'a [u32],
-    cuts: &'a [u32],
-    moduli: &'a [u32],
-    matrix: &'a [u32],
-    least: &'a [u32],
-) -> bool
-    requires { (k < d) × (d ≤ 5) × (Lent extents.now cuts.now moduli.now matrix.now least.now) }
-    ensures { result ≡ place_fits d extents.now cuts.now moduli.now matrix.now least.now k }
-{
-    let extent = extents[k];
-    let cut = cuts[k];
-    let m = moduli[k];
-    dimension_ok(extent, cut)
-        & least_ok(extent, least[k], cut)
-        & (((1 <= m) & (m <= 4096)) & entries_below(d, k, m, matrix))
-}
+    // Whether the first d entries of row i are below m.
+    fn entries_below(self, i: usize, m: u32) -> bool
+        requires { (i < 5) × (self.d ≤ 5) × (length self.matrix.now ≡ 25) }
+        ensures { result ≡ all_below self.entry.d (λ j. ltb (entry_of self.entry.matrix.now i j) m) }
+    {
+        let row = i * 5;
+        let mut ok = true;
+        for entry in &self.matrix[row..row + self.d] {
+            ok &= *entry < m;
+        }
+        ok
+    }
 
-// Whether every dimension is in range, there are at most 16,777,216 tiles, and the moduli multiply to p.
-fn places_ok<'a>(
-    d: usize,
-    p: u32,
-    kind: u32,
-    extents: &'a [u32],
-    cuts: &'a [u32],
-    moduli: &'a [u32],
-    matrix: &'a [u32],
-    least: &'a [u32],
-) -> bool
-    requires { (Ranges d p kind) × (Lent extents.now cuts.now moduli.now matrix.now least.now) }
-    ensures { result ≡ in_shape (layout_of (lent_plan d p kind extents.now cuts.now moduli.now matrix.now least.now)) }
-{
-    let mut tiles: u64 = 1;
-    let mut processors: u64 = 1;
-    for k in 0..d {
-        if !place_ok(d, k, extents, cuts, moduli, matrix, least) {
+    // Whether the modulus of row i is in range, and the row's entries are below it. A modulus above 4,096 multiplies to no p with others that are not 0.
+    fn row_ok(self, i: usize) -> bool
+        requires { (i < self.d) × (self.d ≤ 5) × (Lent self.extents.now self.cuts.now self.moduli.now self.matrix.now self.least.now) }
+        ensures { result ≡ row_fits self.entry.d self.entry.moduli.now self.entry.matrix.now i }
+    {
+        let m = self.moduli[i];
+        (1 <= m) & (m <= 4096) & self.entries_below(i, m)
+    }
+
+    // Whether extent, cut, least thickness and row of dimension k + 1 are in range.
+    fn place_ok(self, k: usize) -> bool
+        requires { (k < self.d) × (self.d ≤ 5) × (Lent self.extents.now self.cuts.now self.moduli.now self.matrix.now self.least.now) }
+        ensures { result ≡ place_fits self.entry.d self.entry.extents.now self.entry.cuts.now self.entry.moduli.now self.entry.matrix.now self.entry.least.now k }
+    {
+        let extent = self.extents[k];
+        let cut = self.cuts[k];
+        dimension_ok(extent, cut) & least_ok(extent, self.least[k], cut) & self.row_ok(k)
+    }
+
+    // Whether every dimension is in range, there are at most 16,777,216 tiles, and the moduli multiply to p.
+    fn places_ok(self) -> bool
+        requires { (Ranges self.d self.p self.kind) × (Lent self.extents.now self.cuts.now self.moduli.now self.matrix.now self.least.now) }
+        ensures { result ≡ in_shape (layout_of (lent_plan self.entry.d self.entry.p self.entry.kind self.entry.extents.now self.entry.cuts.now self.entry.moduli.now self.entry.matrix.now self.entry.least.now)) }
+    {
+        let mut tiles: u64 = 1;
+        let mut processors: u64 = 1;
+        // An index: k is a dimension's place in all five lists.
+        for k in 0..self.d {
+            if !self.place_ok(k) {
+                return false;
+            }
+            tiles *= u64::from(self.cuts[k]);
+            processors *= u64::from(self.moduli[k]);
+        }
+        (tiles <= 16777216) & (processors == u64::from(self.p))
+    }
+
+    // Whether d, p and the kind are in range.
+    fn in_ranges(self) -> bool
+        ensures { result ≡ (between 2 5 self.entry.d && between 1 4096 self.entry.p && leb self.entry.kind 1) }
+    {
+        (2 <= self.d) & (self.d <= 5) & (1 <= self.p) & (self.p <= 4096) & (self.kind <= 1)
+    }
+
+    // Whether the plan of these lists is in shape: that of lists of other lengths than a plan's is not.
+    pub fn in_shape(self) -> bool
+        ensures { result ≡ in_shape (layout_of (plan_lent self.entry)) }
+    {
+        if !self.have_places() {
             return false;
         }
-        tiles = tiles * wide(cuts[k]);
-        processors = processors * wide(moduli[k]);
+        if !self.in_ranges() {
+            return false;
+        }
+        self.places_ok()
     }
-    (tiles <= 16777216) & (processors == wide(p))
 }
 
-// Whether lists have the places that a plan's have.
-fn have_places<'a>(
-    extents: &'a [u32],
-    cuts: &'a [u32],
-    moduli: &'a [u32],
-    matrix: &'a [u32],
-    least: &'a [u32],
-) -> bool
-    ensures { result ≡ is_lent extents.now cuts.now moduli.now matrix.now least.now }
-{
-    (extents.len() == 5)
-        & (cuts.len() == 5)
-        & (moduli.len() == 5)
-        & (matrix.len() == 25)
-        & (least.len() == 5)
+impl Plan {
+    // Its lists, lent.
+    pub fn lists(&self) -> PlanLists<'_>
+        ensures lent { Lends self.now result }
+        ensures places { Lent result.extents.now result.cuts.now result.moduli.now result.matrix.now result.least.now }
+    {
+        PlanLists {
+            d: self.d,
+            p: self.p,
+            kind: self.kind,
+            extents: &self.extents,
+            cuts: &self.cuts,
+            moduli: &self.moduli,
+            matrix: &self.matrix,
+            least: &self.least,
+        }
+    }
+
+    // Whether it is in shape: refusal 6 is for the others.
+    pub fn in_shape(&self) -> bool
+        ensures { result ≡ in_shape (layout_of self.now) }
+    {
+        self.lists().in_shape()
+    }
+
+    // The plan as one in shape.
+    pub fn checked(&self) -> Result<ShapedPlan, Refusal>
+        ensures { told_by (λ shaped. shaped.plan) result ≡ shape_answer self.now }
+    {
+        let lent = self.lent()?;
+        Ok(ShapedPlan { plan: *lent.plan })
+    }
+
+    // The plan as one in shape, lent.
+    pub fn lent(&self) -> Result<LentPlan<'_>, Refusal>
+        ensures { told_by (λ lent. lent.plan.now) result ≡ shape_answer self.now }
+    {
+        if !self.in_shape() {
+            return Err(Refusal::Shape);
+        }
+        Ok(LentPlan { plan: self })
+    }
+
+    // Whether it has a dimension, counted from 1: refusal 7 is for the others.
+    pub fn has_dimension(&self, dimension: usize) -> bool
+        ensures { result ≡ between 1 (layout_of self.now).d dimension }
+    {
+        (1..=self.d).contains(&dimension)
+    }
+
+    // A dimension of the plan, counted from 1.
+    pub fn along(&self, dimension: usize) -> Result<Axis, Refusal>
+        ensures { told_by axis_of result ≡ axis_answer self.now dimension }
+    {
+        self.checked()?.along(dimension)
+    }
 }
 
-// Whether the plan of lists, lent, is in shape: that of lists of other lengths than a plan's is not.
-pub fn shape_ok<'a>(
-    d: usize,
-    p: u32,
-    kind: u32,
-    extents: &'a [u32],
-    cuts: &'a [u32],
-    moduli: &'a [u32],
-    matrix: &'a [u32],
-    least: &'a [u32],
-) -> bool
-    ensures { result ≡ in_shape (layout_of (plan_over d p kind extents.now cuts.now moduli.now matrix.now least.now)) }
-{
-    if !have_places(extents, cuts, moduli, matrix, least) {
-        return false;
+impl ShapedPlan {
+    // A dimension of the plan, counted from 1.
+    pub fn along(self, dimension: usize) -> Result<Axis, Refusal>
+        ensures { told_by axis_of result ≡ dimension_answer self.plan dimension }
+    {
+        if !self.plan.has_dimension(dimension) {
+            return Err(Refusal::Dimension);
+        }
+        Ok(Axis {
+            shaped: self,
+            k: dimension - 1,
+        })
     }
-    if d < 2 {
-        return false;
+
+    // How many tiles it has.
+    pub fn tile_count(self) -> usize
+        ensures { result ≡ tiles_of (layout_of self.plan) }
+    {
+        let lent = LentPlan { plan: &self.plan };
+        lent.tile_count()
     }
-    if 5 < d {
-        return false;
-    }
-    if p < 1 {
-        return false;
-    }
-    if 4096 < p {
-        return false;
-    }
-    if 1 < kind {
-        return false;
-    }
-    places_ok(d, p, kind, extents, cuts, moduli, matrix, least)
 }
 
-// Whether a plan is in shape: refusal 6 is for the others.
-pub fn in_shape(plan: Plan) -> bool
-    ensures { result ≡ in_shape (layout_of plan) }
-{
-    shape_ok(
-        plan.d,
-        plan.p,
-        plan.kind,
-        &plan.extents,
-        &plan.cuts,
-        &plan.moduli,
-        &plan.matrix,
-        &plan.least,
-    )
+impl<'a> LentPlan<'a> {
+    // How many tiles it has.
+    pub fn tile_count(self) -> usize
+        ensures { result ≡ tiles_of (layout_of self.entry.plan.now) }
+    {
+        let cuts = &self.plan.cuts[..self.plan.d];
+        product_of(cuts) as usize
+    }
 }
 
-// The product of the first d numbers, each from 1 to 4,096.
-fn product_of(d: usize, numbers: &[u32]) -> u64
-    requires { (Factors d numbers.now) × (length numbers.now ≡ 5) }
-    ensures { result ≡ product (take d numbers.now) }
+impl Axis {
+    // The extent, the cut and the least thickness of the dimension.
+    pub fn extent(self) -> u32
+        ensures { result ≡ get_or self.shaped.plan.extents self.k 0 }
+    {
+        self.shaped.plan.extents[self.k]
+    }
+
+    pub fn cut(self) -> u32
+        ensures { result ≡ get_or self.shaped.plan.cuts self.k 0 }
+    {
+        self.shaped.plan.cuts[self.k]
+    }
+}
+
+// The product of at most five numbers, each from 1 to 4,096.
+fn product_of(numbers: &[u32]) -> u64
+    requires { Factors (length numbers.now) numbers.now }
+    ensures { result ≡ product numbers.now }
 {
     let mut all: u64 = 1;
-    for k in 0..d {
-        all = all * wide(numbers[k]);
+    for number in numbers {
+        all *= u64::from(*number);
     }
     all
-}
-
-// The number of tiles of a plan in shape.
-pub fn tile_count(plan: Plan) -> usize
-    requires { Shaped plan }
-    ensures { result ≡ tiles_of (layout_of plan) }
-{
-    product_of(plan.d, &plan.cuts) as usize
-}
-
-fn wide(number: u32) -> u64
-    ensures { result ≡ number }
-{
-    number as u64
 }

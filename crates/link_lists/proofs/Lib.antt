@@ -1,5 +1,4 @@
+pub mod Answers
 pub mod Parts
 pub mod Plans
-pub mod Answers
 pub mod Positions
-pub mod Visits

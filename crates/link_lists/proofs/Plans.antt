@@ -1,22 +1,23 @@
 -- A plan and its list: the list of a plan is read as that plan.
 use mathlib.Core.Path.{◌≡◌, refl, sym, ap, ◌∙◌}
-use mathlib.Core.List.{List, [], ◌∷◌, ◌++◌}
 use mathlib.Core.Bool.{Bool}
+use mathlib.Core.List.{List, [], ◌∷◌, ◌++◌}
 use Prim.Native.Nat.{ℕ, ◌+◌, ◌*◌, ◌/◌, ◌%◌, ◌≤◌}
 use native.Mathlib.Nat.{div-add-mod'}
 use native.Mathlib.Omega.{arith}
 use lib.Dec.{lit≤}
-use lib.ListN.{length, get_or, set, take, drop, replicate, length-append, length-replicate, length-drop}
+use lib.ListN.{length, get_or, take, drop, replicate, length-append, length-replicate, length-drop}
 use lib.Seq.{sets, length-take-le, take_all, take_at, drop_at, drop-drop, get_or-drop}
 use Rattle.multipartition.specs.Plans.{Layout, in_shape}
 use Rattle.multipartition.specs.Questions.{owner_answer, neighbour_answer}
 use Rattle.layout.specs.declared.Plan.{Plan}
+use Rattle.layout.specs.declared.PlanLists.{PlanLists}
 use Rattle.layout.specs.Plans.{flat, plan_of, layout_of}
-use Rattle.layout.specs.Lent.{lent_plan, plan_over}
+use Rattle.layout.specs.Lent.{lent_plan, plan_lent, Lends}
 use Rattle.layout.proofs.Lent.{plan_over_lem}
 use Rattle.layout.proofs.Places.{Arrays}
 use Rattle.link_lists.specs.Lists.{plan_places, plan_in, list_of_plan}
-use Rattle.link_lists.proofs.Parts.{sets-append}
+use Rattle.link_lists.proofs.Parts.{sets-append, sets_all}
 
 -- the plan of a layout has the places of every plan by value
 pub arrays_of_layout : (layout : Layout) → Arrays (plan_of layout)
@@ -107,40 +108,50 @@ module _ (plan : Plan) (arrays : Arrays plan) where
   unfolding list_of_plan
   length_list = simp length-append (omega (arith, arrays))
 
-  -- the parts stored one after the other, and the kind and the least thicknesses last
-  pub sets_parts : (list stored : List ℕ)
-      → stored
-      ≡ sets (sets (sets (sets (sets (sets (sets list 0 (plan.d ∷ plan.p ∷ [])) 2 plan.extents) 7 plan.weights) 12 plan.cuts) 17 (plan.cost % 4294967296 ∷ plan.cost / 4294967296 ∷ [])) 19 plan.moduli) 24 plan.matrix
-      → sets (set stored 49 plan.kind) 50 plan.least ≡ sets list 0 (list_of_plan plan)
+  -- the parts stored one after the other
+  pub stored_parts : (list : List ℕ) → length list ≡ plan_places
+      → sets (sets (sets (sets (sets (sets (sets (sets (sets list 0 (plan.d ∷ plan.p ∷ [])) 2 plan.extents) 7 plan.weights) 12 plan.cuts) 17 (plan.cost % 4294967296 ∷ plan.cost / 4294967296 ∷ [])) 19 plan.moduli) 24 plan.matrix) 49 (plan.kind ∷ [])) 50 plan.least
+      ≡ list_of_plan plan
   unfolding list_of_plan
-  sets_parts list stored e =
-      ap (λ (l : List ℕ). sets (set l 49 plan.kind) 50 plan.least) e
-      ∙ sym (simp (sets-append, arrays.extents_places, arrays.weights_places, arrays.cuts_places, arrays.moduli_places, arrays.matrix_places))
+  stored_parts list long =
+      sym (simp (sets-append, arrays.extents_places, arrays.weights_places, arrays.cuts_places, arrays.moduli_places, arrays.matrix_places))
+      ∙ sets_all list (list_of_plan plan) (long ∙ sym length_list)
 
--- the parts of a plan list that the questions read
-module _ (list : List ℕ) (long : length list ≡ plan_places) where
-  part_length : (at n : ℕ) → at + n ≤ plan_places → length (take n (drop at list)) ≡ n
-  part_length at n room = length-take-le n (drop at list) (omega (arith, length-drop at list))
+-- ---- the lists of a plan, lent
 
-  abbrev over : Plan
-  over = plan_over (get_or list 0 0) (get_or list 1 0) (get_or list 49 0) (take 5 (drop 2 list)) (take 5 (drop 12 list)) (take 5 (drop 19 list)) (take 25 (drop 24 list)) (take 5 (drop 50 list))
-
-  over_list : over
-      ≡ lent_plan (get_or list 0 0) (get_or list 1 0) (get_or list 49 0) (take 5 (drop 2 list)) (take 5 (drop 12 list)) (take 5 (drop 19 list)) (take 25 (drop 24 list)) (take 5 (drop 50 list))
-  over_list =
-      plan_over_lem _ _ _ _ _ _ _ _
+module _ (plan : Plan) (lists : PlanLists) (arrays : Arrays plan) (lends : Lends plan lists) where
+  over_lists : plan_lent lists ≡ lent_plan plan.d plan.p plan.kind plan.extents plan.cuts plan.moduli plan.matrix plan.least
+  over_lists =
+      rw (lends.d_is, lends.p_is, lends.kind_is, lends.extents_are, lends.cuts_are, lends.moduli_are, lends.matrix_are, lends.least_are)
+      (plan_over_lem _ _ _ _ _ _ _ _
       (record {
-        extents_places = part_length 2 5 (lit≤ tt);
-        cuts_places = part_length 12 5 (lit≤ tt);
-        moduli_places = part_length 19 5 (lit≤ tt);
-        matrix_places = part_length 24 25 (lit≤ tt);
-        least_places = part_length 50 5 (lit≤ tt);
-      })
+        extents_places = arrays.extents_places;
+        cuts_places = arrays.cuts_places;
+        moduli_places = arrays.moduli_places;
+        matrix_places = arrays.matrix_places;
+        least_places = arrays.least_places;
+      }))
 
-  pub owner_over_list : (position : List ℕ) → owner_answer (layout_of over) position ≡ owner_answer (layout_of (plan_in list)) position
-  unfolding owner_answer in_shape layout_of plan_in
-  owner_over_list position = rw over_list
+  pub owner_over_lists : (position : List ℕ) → owner_answer (layout_of (plan_lent lists)) position ≡ owner_answer (layout_of plan) position
+  unfolding owner_answer in_shape layout_of
+  owner_over_lists position = rw over_lists
 
-  pub neighbour_over_list : (q k : ℕ) (up : Bool) → neighbour_answer (layout_of over) q k up ≡ neighbour_answer (layout_of (plan_in list)) q k up
-  unfolding neighbour_answer in_shape layout_of plan_in
-  neighbour_over_list q k up = rw over_list
+  pub neighbour_over_lists : (q k : ℕ) (up : Bool) → neighbour_answer (layout_of (plan_lent lists)) q k up ≡ neighbour_answer (layout_of plan) q k up
+  unfolding neighbour_answer in_shape layout_of
+  neighbour_over_lists q k up = rw over_lists
+
+-- the plan of a plan list has these places
+pub arrays_in : (list : List ℕ) → length list ≡ plan_places → Arrays (plan_in list)
+unfolding plan_in
+arrays_in list long =
+    record {
+      extents_places = places 2 5 (lit≤ tt);
+      weights_places = places 7 5 (lit≤ tt);
+      cuts_places = places 12 5 (lit≤ tt);
+      moduli_places = places 19 5 (lit≤ tt);
+      matrix_places = places 24 25 (lit≤ tt);
+      least_places = places 50 5 (lit≤ tt);
+    }
+  where
+    places : (at n : ℕ) → at + n ≤ plan_places → length (take n (drop at list)) ≡ n
+    places at n room = length-take-le n (drop at list) (omega (arith, length-drop at list))

@@ -2,13 +2,16 @@
 -- turn it down all the same.
 use mathlib.Core.Path.{◌≡◌, refl, sym, ap, ◌∙◌}
 use mathlib.Core.Bool.{Bool, true, false}
-use mathlib.Core.List.{List, [], ◌∷◌}
+use mathlib.Core.List.{List}
 use mathlib.Core.Option.{Option, some}
-use Prim.Native.Nat.{ℕ, zero, suc, ◌+◌, ◌-◌, ◌≤◌}
+use Prim.Native.Nat.{ℕ, ◌-◌, ◌≤◌}
 use native.Mathlib.Decide.{dec_le}
 use native.Mathlib.Omega.{arith}
-use lib.ListN.{length, get_or, set, take, replicate}
+use lib.ListN.{length, get_or, take, replicate}
 use lib.Seq.{take_at, take-append-le}
+use denote.Param.Members.{Mut}
+use Rattle.std.specs.Fn.{Called}
+use Rattle.std.specs.Array.{IsFromFnResult}
 use Rattle.multipartition.specs.Answers.{Answer, answered}
 use Rattle.multipartition.specs.Plans.{in_shape}
 use Rattle.multipartition.specs.Tiles.{Inside, is_inside}
@@ -16,54 +19,37 @@ use Rattle.multipartition.specs.Questions.{number_answer, position_answer, step_
 use Rattle.multipartition.proofs.BothWays.{position_answered, step_answered}
 use Rattle.multipartition.proofs.Tiles.{inside-length, length_position, one_step_on_inside}
 use Rattle.layout.specs.declared.Plan.{Plan}
-use Rattle.layout.specs.Plans.{layout_of}
+use Rattle.layout.specs.Plans.{layout_of, five}
 use Rattle.layout.proofs.Places.{cuts_length}
 use Rattle.layout.proofs.Positions.{outside_by-length}
 use Rattle.layout.proofs.Shaped.{shaped}
 use Rattle.tiles.specs.declared.positions.Position.{Position}
-use Rattle.tiles.specs.declared.positions.Step.{Step}
-use Rattle.tiles.specs.declared.positions.Moved.{Moved}
-use Rattle.tiles.specs.Answers.{told_step, Moves}
 use Rattle.tiles.specs.Positions.{coordinates, position_with}
 use Rattle.tiles.proofs.Coordinates.{length-coordinates, coordinates_with, five_numbers}
 
--- the first of five numbers put one by one into a list of as many places or fewer
-pub five-set : (xs at : List ℕ) → length at ≡ 5 → length xs ≤ 5
-    → set (set (set (set (set xs 0 (get_or at 0 0)) 1 (get_or at 1 0)) 2 (get_or at 2 0)) 3 (get_or at 3 0)) 4 (get_or at 4 0) ≡ take (length xs) at
-five-set xs at long few =
-    put xs (get_or at 0 0) (get_or at 1 0) (get_or at 2 0) (get_or at 3 0) (get_or at 4 0) few
-    ∙ ap (take (length xs)) (five_numbers at ∙ take_at at (replicate 5 0) 5 long)
-  where
-    put : (xs : List ℕ) (a b c d e : ℕ) → length xs ≤ 5
-        → set (set (set (set (set xs 0 a) 1 b) 2 c) 3 d) 4 e ≡ take (length xs) (a ∷ b ∷ c ∷ d ∷ e ∷ [])
-    put [] a b c d e few = refl
-    put (x1 ∷ []) a b c d e few = refl
-    put (x1 ∷ x2 ∷ []) a b c d e few = refl
-    put (x1 ∷ x2 ∷ x3 ∷ []) a b c d e few = refl
-    put (x1 ∷ x2 ∷ x3 ∷ x4 ∷ []) a b c d e few = refl
-    put (x1 ∷ x2 ∷ x3 ∷ x4 ∷ x5 ∷ []) a b c d e few = refl
-    put (x1 ∷ x2 ∷ x3 ∷ x4 ∷ x5 ∷ x6 ∷ xs) a b c d e few = absurd (omega arith)
-
--- the same behind a first number
-pub step_set : (xs at : List ℕ) (inside d : ℕ) → length at ≡ 5 → length xs ≡ d + 1 → d ≤ 5
-    → set (set (set (set (set (set xs 0 inside) 1 (get_or at 0 0)) 2 (get_or at 1 0)) 3 (get_or at 2 0)) 4 (get_or at 3 0)) 5 (get_or at 4 0) ≡ inside ∷ take d at
-step_set [] at inside d long many few = absurd (omega arith)
-step_set (x ∷ xs) at inside d long many few =
-    let rest : length xs ≡ d = omega arith in
-    ap (λ (ys : List ℕ). inside ∷ ys) (five-set xs at long (omega arith) ∙ ap (λ (n : ℕ). take n at) rest)
+-- five numbers that are asked for one after the other
+pub five_asked : {F : Type 0} (g : Mut F (ℕ × Unit {0}) ℕ) (f : F) (xs ys : List ℕ)
+    → ((p : F) (k y : ℕ) (q : F) → p ≡ f → Called g p (k, tt) y q → (q ≡ f) × (y ≡ get_or xs k 0))
+    → IsFromFnResult g f ys 5 → ys ≡ five xs
+five_asked g f xs ys asked made =
+    let m0 = made.each in
+    let a0 = asked f 0 m0.1 m0.0 refl m0.3 in
+    let m1 = m0.4 in
+    let a1 = asked m0.0 1 m1.1 m1.0 a0.0 m1.3 in
+    let m2 = m1.4 in
+    let a2 = asked m1.0 2 m2.1 m2.0 a1.0 m2.3 in
+    let m3 = m2.4 in
+    let a3 = asked m2.0 3 m3.1 m3.0 a2.0 m3.3 in
+    let m4 = m3.4 in
+    let a4 = asked m3.0 4 m4.1 m4.0 a3.0 m4.3 in
+    sym (take_at ys (replicate 5 0) 5 made.long)
+    ∙ sym (five_numbers ys)
+    ∙ rw (m0.2.1 0 ∙ a0.1, m1.2.1 0 ∙ a1.1, m2.2.1 0 ∙ a2.1, m3.2.1 0 ∙ a3.1, m4.2.1 0 ∙ a4.1) (five_numbers xs)
 
 -- the coordinates of a position by value
 pub coordinates_front : (position : Position) → position.d ≤ length position.at → coordinates position ≡ take position.d position.at
 unfolding coordinates
 coordinates_front position few = take-append-le position.d position.at (replicate position.d 0) few
-
-pub coordinates-zero : (d : ℕ) → d ≤ 5 → coordinates (record { d = d; at = replicate 5 0 }) ≡ replicate d 0
-coordinates-zero d few = coordinates_front (record { d = d; at = replicate 5 0 }) few ∙ take_zeros d 5 few
-  where
-    take_zeros : (n m : ℕ) → n ≤ m → take {A = ℕ} n (replicate m 0) ≡ replicate n 0
-    take_zeros zero m l = refl
-    take_zeros (suc n) zero l = absurd (omega arith)
-    take_zeros (suc n) (suc m) l = ap (λ (zeros : List ℕ). 0 ∷ zeros) (take_zeros n m (omega arith))
 
 module _ (plan : Plan) (xs : List ℕ) where
   abbrev in_grid : List ℕ → Bool
@@ -92,13 +78,9 @@ module _ (plan : Plan) (xs : List ℕ) where
   unfolding number_answer
   number_with = asked_with (number_answer (layout_of plan)) (λ e ys zs. rw e) (λ ys zs e f. rw (e, f))
 
-  pub step-told : (k : ℕ) (up : Bool) (moved : Moved) (step : Step) → Moves (step_answer (layout_of plan) (coordinates (position_with xs)) k up) moved
-      → moved.step ≡ step → step_answer (layout_of plan) xs k up ≡ told_step step (coordinates moved.position)
+  pub step_with : (k : ℕ) (up : Bool) → step_answer (layout_of plan) (coordinates (position_with xs)) k up ≡ step_answer (layout_of plan) xs k up
   unfolding step_answer
-  step-told k up moved step answers e =
-      sym (asked_with (λ ys. step_answer (layout_of plan) ys k up) (λ e ys zs. rw e) (λ ys zs e f. rw (e, f)))
-      ∙ sym answers.told
-      ∙ ap (λ (s : Step). told_step s (coordinates moved.position)) e
+  step_with k up = asked_with (λ ys. step_answer (layout_of plan) ys k up) (λ e ys zs. rw e) (λ ys zs e f. rw (e, f))
 
 -- an answered position has d coordinates, at most five
 pub position_few : (plan : Plan) (tile : ℕ) (xs : List ℕ) → position_answer (layout_of plan) tile ≡ answered xs → length xs ≤ 5
@@ -107,7 +89,7 @@ position_few plan tile xs e =
     let s = shaped plan found.0 in
     omega (arith, ap length found.2, length_position (layout_of plan).cuts tile, cuts_length plan s, s.d_high)
 
--- so has a position one step on, and the one before it
+-- so has a position from which a step is answered, and the one that it leads to has as many
 module _ (plan : Plan) (xs : List ℕ) (k : ℕ) (up : Bool) (next : Option (List ℕ)) (e : step_answer (layout_of plan) xs k up ≡ answered next) where
   few_inside : (ys : List ℕ) → Inside (layout_of plan).cuts ys → length ys ≤ 5
   few_inside ys inside =
@@ -117,7 +99,8 @@ module _ (plan : Plan) (xs : List ℕ) (k : ℕ) (up : Bool) (next : Option (Lis
   pub step_few : length xs ≤ 5
   step_few = few_inside xs ((step_answered (layout_of plan) xs k up next).0 e).2
 
-  pub step-next_few : (ys : List ℕ) → next ≡ some ys → length ys ≤ 5
-  step-next_few ys is_some =
+  pub step-next_length : (ys : List ℕ) → next ≡ some ys → length ys ≡ length xs
+  step-next_length ys is_some =
       let h = (step_answered (layout_of plan) xs k up next).0 e in
-      few_inside ys (one_step_on_inside (layout_of plan).cuts xs ys (k - 1) up h.2 (h.3 ∙ is_some))
+      inside-length (layout_of plan).cuts ys (one_step_on_inside (layout_of plan).cuts xs ys (k - 1) up h.2 (h.3 ∙ is_some))
+      ∙ sym (inside-length (layout_of plan).cuts xs h.2)

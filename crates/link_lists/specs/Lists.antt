@@ -1,7 +1,7 @@
 -- The lists of the link for a solver in C (document 01, "Tiles, slabs, chains"): plans and answers as lists of 32-bit numbers.
-use Rattle.std.specs.Prelude.{List, [], ◌∷◌, ◌++◌, ◌≡◌, ℕ, ◌+◌, ◌*◌, ◌/◌, ◌%◌, eqb, length, get_or, take, drop}
+use Rattle.std.specs.Prelude.{not, List, [], ◌∷◌, ◌++◌, ◌≡◌, ℕ, ◌+◌, ◌*◌, ◌/◌, ◌%◌, min, eqb, length, get_or, take, drop}
 use Rattle.std.proofs.Math.Option.{none, some}
-use Rattle.multipartition.specs.Answers.{Answer, answered, refused, checked, held_by}
+use Rattle.multipartition.specs.Answers.{Answer, answered, refused, Check, checked, held_by}
 use Rattle.multipartition.specs.Questions.{length_check}
 use Rattle.layout.specs.declared.Plan.{Plan}
 use Rattle.timetable.specs.Timetable.{Message, Visit}
@@ -36,6 +36,14 @@ list_of_plan plan =
 abbrev pub plan_places : ℕ
 plan_places = 55
 
+-- "Over that link a plan list of a wrong length is a 6"
+abbrev pub plan_list_check : List ℕ → Check
+plan_list_check list = record { fails = not (eqb (length list) plan_places); number = 6; place = 0 }
+
+-- the numbers of a plan list, if it has its length
+abbrev pub plan_list_answer : List ℕ → Answer (List ℕ)
+plan_list_answer list = checked (plan_list_check list ∷ []) (answered list)
+
 -- ---- answers
 
 -- "an answer list of a wrong length is a 9": the numbers into a lent list of so many places
@@ -46,6 +54,11 @@ into places numbers = checked (length_check (eqb places (length numbers)) ∷ []
 abbrev pub code_of : {A : Type 0} → Answer A → ℕ
 code_of (answered a) = 0
 code_of (refused number place) = number + 4294967296 * place
+
+-- a place in 32 bits: a larger one is given as 4,294,967,295
+abbrev pub place_in32 : {A : Type 0} → Answer A → Answer A
+place_in32 (answered a) = answered a
+place_in32 (refused number place) = refused number (min place 4294967295)
 
 -- a call that answers so: what it returns, and what the lent answer lists hold afterwards
 pub record Linked {A : Type 0} (answer : Answer A) (lent : A) (code : ℕ) (after : A) : Type 0 where

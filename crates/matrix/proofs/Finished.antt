@@ -7,8 +7,8 @@ use native.Mathlib.Nat.{pos_of_dvd_of_pos}
 use native.Mathlib.Decide.{dec_le}
 use native.Mathlib.Omega.{arith}
 use borrow.Author.Tests.{le-leb, lt-leb}
-use lib.ListN.{length, take, set, replicate, length-set}
-use lib.Seq.{length-take-le, get_or-take, get_or-set_same, get_or-set_other}
+use lib.ListN.{length, set, replicate, length-set}
+use lib.Seq.{get_or-set_same, get_or-set_other}
 use Rattle.multipartition.specs.Moduli.{moduli_of}
 use Rattle.multipartition.specs.Matrix.{Row, remainder, matrix_of}
 use Rattle.multipartition.specs.Plans.{entry_at}
@@ -72,40 +72,37 @@ module _ (moduli rows : List ℕ) (d n : ℕ) where
 
 -- ---- the array of the moduli
 
-module _ (p : ℕ) (cuts moduli : List ℕ) (d : ℕ) (hp : 1 ≤ p) (ld : d ≤ 5) (long : length cuts ≡ 5) (e : moduli ≡ five (moduli_of p (take d cuts))) where
-  length_cuts : length (take d cuts) ≡ d
-  length_cuts = length-take-le d cuts (omega arith)
-
-  modulus : (k : ℕ) → k < 5 → at moduli k ≡ at (moduli_of p (take d cuts)) k
-  modulus k l = ap (λ (ms : List ℕ). at ms k) e ∙ five-at (moduli_of p (take d cuts)) k l
+module _ (p : ℕ) (cuts moduli : List ℕ) (d : ℕ) (hp : 1 ≤ p) (ld : d ≤ 5) (length_cuts : length cuts ≡ d) (e : moduli ≡ five (moduli_of p cuts)) where
+  modulus : (k : ℕ) → k < 5 → at moduli k ≡ at (moduli_of p cuts) k
+  modulus k l = ap (λ (ms : List ℕ). at ms k) e ∙ five-at (moduli_of p cuts) k l
 
   pub dividing : Dividing p moduli d
-  dividing k l = rw (modulus k (omega arith)) (modulus-dvd p (take d cuts) hp k (omega (arith, length_cuts)))
+  dividing k l = rw (modulus k (omega arith)) (modulus-dvd p cuts hp k (omega (arith, length_cuts)))
 
   -- the remainder of what stands at a place is the matrix's entry
   pub entry_reduced : (rows : List ℕ) → Finished p cuts moduli rows (d * 5) → (i c : ℕ) → i < d → c < d
-      → at rows (i * 5 + c) % at moduli i ≡ entry_at (matrix_of p (take d cuts)) i c
+      → at rows (i * 5 + c) % at moduli i ≡ entry_at (matrix_of p cuts) i c
   entry_reduced rows f i c li lc =
       sym
-      (entry_at_lem p (take d cuts) i c (omega (arith, length_cuts)) (omega (arith, length_cuts))
+      (entry_at_lem p cuts i c (omega (arith, length_cuts)) (omega (arith, length_cuts))
       ∙ ap₂ (λ (row : Row) (m : ℕ). remainder (row (suc c)) m) same_row (sym (modulus i (omega arith)))
       ∙ stands-remainder (at moduli i) (row_at (at cuts) (at moduli) i (suc c)) (at rows (i * 5 + c))
       (pos_of_dvd_of_pos (dividing i li) hp)
       (stands-dvd (at moduli i) p (row_at (at cuts) (at moduli) i (suc c)) (at rows (i * 5 + c)) (dividing i li)
       (f.stands i c (omega arith) (omega arith))))
     where
-      same_row : row_at (at (take d cuts)) (at (moduli_of p (take d cuts))) i ≡ row_at (at cuts) (at moduli) i
+      same_row : row_at (at cuts) (at (moduli_of p cuts)) i ≡ row_at (at cuts) (at moduli) i
       same_row =
-          row_same (at (take d cuts)) (at cuts) (at (moduli_of p (take d cuts))) (at moduli) i
-          (λ k l. get_or-take d cuts k 0 (omega arith))
+          row_same (at cuts) (at cuts) (at (moduli_of p cuts)) (at moduli) i
+          (λ k l. refl)
           (λ k l. sym (modulus k (omega arith)))
 
-  pub reduced_entry : (rows : List ℕ) → Finished p cuts moduli rows (d * 5) → (n : ℕ) → reduced_at moduli rows d n ≡ entry_at (matrix_of p (take d cuts)) (n / 5) (n % 5)
+  pub reduced_entry : (rows : List ℕ) → Finished p cuts moduli rows (d * 5) → (n : ℕ) → reduced_at moduli rows d n ≡ entry_at (matrix_of p cuts) (n / 5) (n % 5)
   reduced_entry rows f n = go (dec_le d (n / 5)) (dec_le d (n % 5))
     where
-      go : Dec (d ≤ n / 5) → Dec (d ≤ n % 5) → reduced_at moduli rows d n ≡ entry_at (matrix_of p (take d cuts)) (n / 5) (n % 5)
-      go (yes l) _ = reduced_past_row moduli rows d n l ∙ sym (entry_past_row p (take d cuts) (n / 5) (n % 5) (omega (arith, length_cuts)))
-      go (no _) (yes l) = reduced_past_column moduli rows d n l ∙ sym (entry_past_column p (take d cuts) (n / 5) (n % 5) (omega (arith, length_cuts)))
+      go : Dec (d ≤ n / 5) → Dec (d ≤ n % 5) → reduced_at moduli rows d n ≡ entry_at (matrix_of p cuts) (n / 5) (n % 5)
+      go (yes l) _ = reduced_past_row moduli rows d n l ∙ sym (entry_past_row p cuts (n / 5) (n % 5) (omega (arith, length_cuts)))
+      go (no _) (yes l) = reduced_past_column moduli rows d n l ∙ sym (entry_past_column p cuts (n / 5) (n % 5) (omega (arith, length_cuts)))
       go (no l) (no m) =
           reduced_inside moduli rows d n (omega arith) (omega arith)
           ∙ ap (λ (k : ℕ). at rows k % at moduli (n / 5)) (omega arith)

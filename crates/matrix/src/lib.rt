@@ -1,7 +1,7 @@
 // The moduli and the matrix of given cuts.
 #![tactic(auto)]
 
-ghost use Rattle.std.specs.Prelude.{◌≡◌, ◌++◌, ℕ, suc, ◌+◌, ◌-◌, ◌*◌, ◌%◌, ◌<◌, ◌≤◌, pos, take, replicate};
+ghost use Rattle.std.specs.Prelude.{◌≡◌, ◌++◌, ℕ, suc, ◌+◌, ◌-◌, ◌*◌, ◌%◌, ◌<◌, ◌≤◌, pos, length, take, replicate};
 ghost use Rattle.multipartition.specs.Moduli.{moduli_of};
 ghost use Rattle.multipartition.specs.Matrix.{matrix_of};
 ghost use Rattle.layout.specs.Plans.{five, flat};
@@ -10,15 +10,14 @@ ghost use Rattle.matrix.specs.Rows.{start_at, at, Moderate, Multipliers, Bounded
 use numbers::euclid::gcd;
 
 // The moduli, from the last dimension to the first: each is what its cut shares with what the later ones leave of p.
-pub fn moduli_of(p: u32, cuts: [u32; 5], d: usize) -> [u32; 5]
-    requires { (1 ≤ p) × (d ≤ 5) }
-    ensures { result ≡ five (moduli_of p (take d cuts)) }
+pub fn moduli_of(p: u32, cuts: &[u32]) -> [u32; 5]
+    requires { (1 ≤ p) × (length cuts.now ≤ 5) }
+    ensures { result ≡ five (moduli_of p cuts.now) }
 {
-    let mut moduli: [u32; 5] = [0; 5];
+    let mut moduli = [0; 5];
     let mut left = p;
-    let mut i = d;
-    while 0 < i {
-        i = i - 1;
+    // An index: it is the place of the cut that is read and of the modulus that is written.
+    for i in (0..cuts.len()).rev() {
         let m = gcd(left, cuts[i]);
         moduli[i] = m;
         left = left / m;
@@ -30,13 +29,7 @@ pub fn moduli_of(p: u32, cuts: [u32; 5], d: usize) -> [u32; 5]
 fn started(i: usize, c: usize) -> u32
     ensures { (start_at i (suc c) ≡ pos result) × (result ≤ 1) }
 {
-    if c == 0 {
-        return 1;
-    }
-    if c == i {
-        return 1;
-    }
-    0
+    if c == 0 || c == i { 1 } else { 0 }
 }
 
 // x less t times y, modulo p.
@@ -48,15 +41,14 @@ fn less(p: u32, x: u32, t: u32, y: u32) -> u32
 }
 
 // The multipliers of row i at the places of the rows that it takes, from row i - 1 down to row 1.
-fn multipliers(cuts: &[u32; 5], moduli: &[u32; 5], i: usize) -> [u32; 5]
-    requires { (i < 5) × Moderate moduli.now i }
+fn multipliers(cuts: &[u32], moduli: &[u32; 5], i: usize) -> [u32; 5]
+    requires { (i < length cuts.now) × (i < 5) × Moderate moduli.now i }
     ensures { Multipliers cuts.now moduli.now result i }
 {
-    let mut ts: [u32; 5] = [0; 5];
+    let mut ts = [0; 5];
     let mut r = moduli[i];
-    let mut j = i;
-    while 1 < j {
-        j = j - 1;
+    // An index: j is the place in two lists that are read and in one that is written.
+    for j in (1..i).rev() {
         let t = r / gcd(r, cuts[j]);
         ts[j] = t;
         r = gcd(t * moduli[j], r);
@@ -70,35 +62,35 @@ fn entry(p: u32, ts: &[u32; 5], rows: &[u32; 25], i: usize, c: usize) -> u32
     ensures { (result ≤ 4096) × StandsFor p ts.now rows.now i c result }
 {
     let mut x = started(i, c);
-    let mut j = i;
-    while 1 < j {
-        j = j - 1;
-        let place = j * 5 + c;
-        x = less(p, x, ts[j], rows[place]);
+    // An index: the numbers of a column stand five places apart.
+    for j in (1..i).rev() {
+        x = less(p, x, ts[j], rows[j * 5 + c]);
     }
     x
 }
 
 // Row i modulo p, after the rows before it.
-fn finish_row(p: u32, cuts: &[u32; 5], moduli: &[u32; 5], rows: &mut [u32; 25], i: usize)
-    requires { Before p cuts.now moduli.now rows.old i 0 }
+fn finish_row(p: u32, cuts: &[u32], moduli: &[u32; 5], rows: &mut [u32; 25], i: usize)
+    requires { (i < length cuts.now) × Before p cuts.now moduli.now rows.old i 0 }
     ensures { Finished p cuts.now moduli.now rows.new (i * 5 + 5) }
 {
     let ts = multipliers(cuts, moduli, i);
+    // An index: the column that is asked for says where it is written, in the list that is read.
     for c in 0..5usize {
         let place = i * 5 + c;
         rows[place] = entry(p, &ts, rows, i, c);
     }
 }
 
-// All rows modulo p, one after the other.
-fn finish_rows(p: u32, cuts: [u32; 5], moduli: [u32; 5], d: usize) -> [u32; 25]
-    requires { (1 ≤ p) × (p ≤ 4096) × (d ≤ 5) × (Dividing p moduli d) }
-    ensures { Finished p cuts moduli result (d * 5) }
+// All rows modulo p, one after the other. p, cuts and moduli stay three parameters: two public calls take them, of which each has others beside them.
+fn finish_rows(p: u32, cuts: &[u32], moduli: &[u32; 5]) -> [u32; 25]
+    requires { (1 ≤ p) × (p ≤ 4096) × (length cuts.now ≤ 5) × (Dividing p moduli.now (length cuts.now)) }
+    ensures { Finished p cuts.now moduli.now result (length cuts.now * 5) }
 {
-    let mut rows: [u32; 25] = [0; 25];
-    for i in 0..d {
-        finish_row(p, &cuts, &moduli, &mut rows, i);
+    let mut rows = [0; 25];
+    // The number of a row: no list is read here.
+    for i in 0..cuts.len() {
+        finish_row(p, cuts, moduli, &mut rows, i);
     }
     rows
 }
@@ -110,24 +102,22 @@ fn reduced(moduli: &[u32; 5], rows: &[u32; 25], d: usize, n: usize) -> u32
 {
     let i = n / 5;
     let c = n % 5;
-    if d <= i {
-        return 0;
-    }
-    if d <= c {
+    if d <= i || d <= c {
         return 0;
     }
     rows[n] % moduli[i]
 }
 
 // The matrix: the finished rows, each reduced by its modulus only after the last row.
-pub fn matrix_of(p: u32, cuts: [u32; 5], moduli: [u32; 5], d: usize) -> [u32; 25]
-    requires { (1 ≤ p) × (p ≤ 4096) × (d ≤ 5) × (moduli ≡ five (moduli_of p (take d cuts))) }
-    ensures { result ≡ take 25 (flat (matrix_of p (take d cuts)) ++ replicate 25 0) }
+pub fn matrix_of(p: u32, cuts: &[u32], moduli: &[u32; 5]) -> [u32; 25]
+    requires { (1 ≤ p) × (p ≤ 4096) × (length cuts.now ≤ 5) × (moduli.now ≡ five (moduli_of p cuts.now)) }
+    ensures { result ≡ take 25 (flat (matrix_of p cuts.now) ++ replicate 25 0) }
 {
-    let rows = finish_rows(p, cuts, moduli, d);
-    let mut matrix: [u32; 25] = [0; 25];
+    let rows = finish_rows(p, cuts, moduli);
+    let mut matrix = [0; 25];
+    // An index: `array::from_fn` would take a closure that says the clauses of `reduced` once more.
     for n in 0..25 {
-        matrix[n] = reduced(&moduli, &rows, d, n);
+        matrix[n] = reduced(moduli, &rows, cuts.len(), n);
     }
     matrix
 }

@@ -2,6 +2,7 @@ pub mod StarredGrids
 pub mod WholeNumbers
 pub mod MixedRadix
 pub mod Tests
+pub mod Iterated
 pub mod Searches
 pub mod Answers
 pub mod Order

@@ -7,10 +7,10 @@ use Prim.Native.Nat.{ℕ, zero, suc, ◌+◌, ◌-◌, ◌/◌, ◌%◌, ◌≤�
 use native.Mathlib.Nat.{eq-or-lt_of_le, not-suc-le-zero, le_of_suc-le-suc, le_refl, le_antisymm, le_of_dvd, pos_of_dvd_of_pos, dvd_of_mod-eq-zero, mod-eq-zero_of_dvd, mul-div_cancel', mul-le-mul, mul-le-mul_left, mul-lt-mul_of_pos_right, lt_of_not-le}
 use native.Mathlib.Decide.{dec_le, dec_lt, dec_dvd}
 use native.Mathlib.Omega.{arith}
-use lib.ListN.{length, get_or, take, replicate, length-append, get_or-append}
-use lib.Seq.{get_or-append_seam, get_or-append-add, take_at}
+use lib.ListN.{length, get_or, length-append, get_or-append}
+use lib.Seq.{get_or-append_seam}
 use borrow.Author.Tests.{eq-eqb, ne_eqb, le-leb, lt-leb}
-use Rattle.numbers.specs.Divisors.{divisors_to, divisors_of, divisors_answer, Listed}
+use Rattle.numbers.specs.Divisors.{divisors_to, divisors_of, divisors_answer}
 use Rattle.numbers.proofs.Divides.{quotient_pos}
 
 -- ---- one number more
@@ -223,25 +223,3 @@ divisors_answer_above n h = rw (lt-leb n 4096 h)
 pub divisors_answer_inside : (n : ℕ) → n ≤ 4096 → divisors_answer n ≡ divisors_of n
 unfolding divisors_answer
 divisors_answer_inside n h = rw (le-leb n 4096 h)
-
--- ---- a list in places, as `divisors` returns it
-
-pub listed_inside : (xs : List ℕ) (count : ℕ) (of : List ℕ) → Listed xs count of → (i : ℕ) → i < length xs → get_or of i 0 ≡ get_or xs i 0
-listed_inside xs count of P i h = ap (λ (l : List ℕ). get_or l i 0) P.places ∙ get_or-append xs (replicate (128 - length xs) 0) 0 i h
-
-pub listed_behind : (xs : List ℕ) (count : ℕ) (of : List ℕ) → Listed xs count of → (i : ℕ) → length xs ≤ i → get_or of i 0 ≡ 0
-listed_behind xs count of P i h = ap (λ (l : List ℕ). get_or l i 0) P.places ∙ behind
-  where
-    zeros : (k j : ℕ) → get_or {A = ℕ} (replicate k 0) j 0 ≡ 0
-    zeros zero j = refl
-    zeros (suc k) zero = refl
-    zeros (suc k) (suc j) = zeros k j
-
-    behind : get_or (xs ++ replicate (128 - length xs) 0) i 0 ≡ 0
-    behind =
-        let e : length xs + (i - length xs) ≡ i = omega arith in
-        ap (λ (k : ℕ). get_or (xs ++ replicate (128 - length xs) 0) k 0) (sym e)
-        ∙ get_or-append-add xs (replicate (128 - length xs) 0) (i - length xs) 0 ∙ zeros (128 - length xs) (i - length xs)
-
-pub listed-take : (xs : List ℕ) (count : ℕ) (of : List ℕ) → Listed xs count of → take count of ≡ xs
-listed-take xs count of P = ap (take count) P.places ∙ take_at xs (replicate (128 - length xs) 0) count (sym P.counted)

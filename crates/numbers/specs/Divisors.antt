@@ -1,5 +1,5 @@
--- The divisors of a number, rising, and how `divisors` returns them. They compute: divisors_of 6 is 1, 2, 3, 6.
-use Rattle.std.specs.Prelude.{◌≡◌, cond, List, [], ◌∷◌, ◌++◌, ℕ, zero, suc, ◌-◌, ◌%◌, eqb, leb, length, replicate}
+-- The divisors of a number, rising. They compute: divisors_of 6 is 1, 2, 3, 6.
+use Rattle.std.specs.Prelude.{cond, List, [], ◌∷◌, ◌++◌, ℕ, zero, suc, ◌%◌, eqb, leb}
 
 -- the numbers from 1 to v that divide n, rising
 unfoldable pub divisors_to : ℕ → ℕ → List ℕ
@@ -13,8 +13,3 @@ divisors_of n = divisors_to n n
 -- what `divisors` answers: no divisors above 4096, and none of 0
 unfoldable pub divisors_answer : ℕ → List ℕ
 divisors_answer n = cond (leb n 4096) (divisors_of n) []
-
--- the list xs in 128 places: how many entries it has, and the entries followed by zeros
-pub record Listed (xs : List ℕ) (count : ℕ) (of : List ℕ) : Type 0 where
-  pub counted : count ≡ length xs
-  pub places : of ≡ xs ++ replicate (128 - length xs) 0

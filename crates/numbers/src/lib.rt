@@ -4,4 +4,3 @@
 mod entries; // entries.rt: the table of least factors
 pub mod euclid; // euclid.rt: the greatest common divisor
 pub mod factors; // factors.rt: least factors and divisors of the numbers up to 4096
-pub mod listing; // listing.rt: the form in which divisors are returned

@@ -10,6 +10,8 @@ use native.Mathlib.Omega.{arith}
 use lib.Dec.{ltb}
 use lib.ListN.{length, length-append}
 use borrow.Author.Tests.{lt-ltb, le-ltb, ltb-true, ltb-false}
+use Rattle.std.specs.Fmt as std
+use Rattle.std.proofs.lemmas.Fmt.{AppendsLastDigit, decimal_from_appends, length-decimal-le_succ}
 use Rattle.numerals.specs.Decimal.{digit, decimal_within, decimal, Digits, Numeral, value_after, value_of}
 
 pub lt_or-le : (a b : ℕ) → (a < b) ⊎ (b ≤ a)
@@ -84,6 +86,15 @@ length-decimal (suc k) n h = ⊎_elim small (more (length-decimal k (n / 10))) (
         let shorter = ih (omega arith) in
         let e = ap length (decimal_more n l) ∙ length-append (decimal (n / 10)) (digit (n % 10) ∷ []) in
         omega arith
+
+-- ---- the library writes the same digits
+
+decimal_appends : AppendsLastDigit decimal_within
+decimal_appends = record { one = within_small; more = within_more }
+
+pub decimal-std : (n : ℕ) → n < 2 ^ 64 → std.decimal n ≡ decimal n
+unfolding decimal
+decimal-std n h = sym (decimal_from_appends decimal_within decimal_appends (suc n) n h (omega (arith, length-decimal-le_succ n h)))
 
 -- ---- the digits of a number read back to it
 

@@ -1,3 +1,4 @@
 pub mod Decimal
 pub mod Lines
-pub mod Output
+pub mod Written
+pub mod Puts

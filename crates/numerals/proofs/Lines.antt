@@ -1,10 +1,10 @@
 -- Lines of numbers: a line number by number, from the front and from the end, and its length.
 use mathlib.Core.Path.{◌≡◌, refl, sym, ap, ap₂, ◌∙◌}
-use mathlib.Core.List.{List, [], ◌∷◌, ◌++◌, append_assoc}
-use Prim.Native.Nat.{ℕ, zero, suc, ◌*◌, ◌^◌, ◌≤◌, ◌<◌}
-use native.Mathlib.Nat.{not-suc-le-zero, le_of_suc-le-suc}
+use mathlib.Core.List.{List, [], ◌∷◌, ◌++◌, append_assoc, append-nil}
+use Prim.Native.Nat.{ℕ, suc, ◌*◌, ◌^◌, ◌≤◌, ◌<◌}
 use native.Mathlib.Omega.{arith}
-use lib.ListN.{length, drop, get_or, length-drop, length-append}
+use lib.ListN.{length, take, get_or, length-append}
+use lib.Seq.{take-suc}
 use Rattle.numerals.specs.Decimal.{decimal}
 use Rattle.numerals.specs.Lines.{separator, line_of}
 use Rattle.numerals.proofs.Decimal.{length-decimal}
@@ -30,41 +30,31 @@ line-append (n ∷ ns) m ms =
     more [] = refl
     more (l ∷ ls) = refl
 
--- ---- the first numbers of a line
+-- ---- a line number by number
 
--- the first i numbers of a line, with what follows the last of them
-abbrev pub line_front : ℕ → List ℕ → List ℕ
-line_front zero ns = []
-line_front (suc i) [] = []
-line_front (suc i) (n ∷ ns) = decimal n ++ (separator ns ∷ line_front i ns)
+-- numbers with a space before each: what follows a first number
+abbrev pub followed : List ℕ → List ℕ
+followed [] = []
+followed (n ∷ ns) = 32 ∷ (decimal n ++ followed ns)
 
-pub front-suc : (ns : List ℕ) (i : ℕ) → i < length ns
-    → line_front (suc i) ns ≡ line_front i ns ++ (decimal (get_or ns i 0) ++ (separator (drop (suc i) ns) ∷ []))
-front-suc [] i h = absurd (not-suc-le-zero h)
-front-suc (n ∷ ns) zero h = refl
-front-suc (n ∷ ns) (suc i) h =
-    ap (λ (t : List ℕ). decimal n ++ (separator ns ∷ t)) (front-suc ns i (le_of_suc-le-suc h))
-    ∙ sym (append_assoc (decimal n) (separator ns ∷ line_front i ns) (decimal (get_or ns i 0) ++ (separator (drop (suc i) ns) ∷ [])))
+pub followed-append : (ns ms : List ℕ) → followed (ns ++ ms) ≡ followed ns ++ followed ms
+followed-append [] ms = refl
+followed-append (n ∷ ns) ms =
+    ap (λ (t : List ℕ). 32 ∷ (decimal n ++ t)) (followed-append ns ms)
+    ∙ ap (λ (t : List ℕ). 32 ∷ t) (sym (append_assoc (decimal n) (followed ns) (followed ms)))
 
-pub front_all : (ns : List ℕ) (i : ℕ) → length ns ≤ i → line_front i ns ≡ line_of ns
-front_all [] zero h = refl
-front_all [] (suc i) h = refl
-front_all (n ∷ ns) zero h = absurd (not-suc-le-zero h)
-front_all (n ∷ ns) (suc i) h = ap (λ (t : List ℕ). decimal n ++ (separator ns ∷ t)) (front_all ns i (le_of_suc-le-suc h))
+-- one number more
+pub followed-suc : (ns : List ℕ) (i : ℕ) → i < length ns → followed (take (suc i) ns) ≡ followed (take i ns) ++ (32 ∷ decimal (get_or ns i 0))
+followed-suc ns i h =
+    ap followed (take-suc ns i 0 h)
+    ∙ followed-append (take i ns) (get_or ns i 0 ∷ [])
+    ∙ ap (λ (t : List ℕ). followed (take i ns) ++ (32 ∷ t)) (append-nil (decimal (get_or ns i 0)))
 
-separator_some : (ns : List ℕ) → 0 < length ns → separator ns ≡ 32
-separator_some [] h = absurd (not-suc-le-zero h)
-separator_some (n ∷ ns) h = refl
-
-separator_none : (ns : List ℕ) → length ns ≤ 0 → separator ns ≡ 10
-separator_none [] h = refl
-separator_none (n ∷ ns) h = absurd (not-suc-le-zero h)
-
-pub separator_before : (ns : List ℕ) (i : ℕ) → i < length ns → separator (drop i ns) ≡ 32
-separator_before ns i h = let e = length-drop i ns in separator_some (drop i ns) (omega arith)
-
-pub separator_last : (ns : List ℕ) (i : ℕ) → length ns ≤ i → separator (drop i ns) ≡ 10
-separator_last ns i h = let e = length-drop i ns in separator_none (drop i ns) (omega arith)
+-- the first number, the others, and the newline
+pub line-followed : (n : ℕ) (ns : List ℕ) → line_of (n ∷ ns) ≡ decimal n ++ (followed ns ++ (10 ∷ []))
+line-followed n [] = refl
+line-followed n (m ∷ ms) =
+    ap (λ (t : List ℕ). decimal n ++ (32 ∷ t)) (line-followed m ms ∙ sym (append_assoc (decimal m) (followed ms) (10 ∷ [])))
 
 -- ---- how long a line is
 

@@ -1,14 +1,19 @@
 -- The program's three lists are long enough: what is read settles what is written, and all of it is written.
 use mathlib.Core.Path.{◌≡◌, refl, sym, ap, ◌∙◌, subst}
 use mathlib.Core.Bool.{true}
-use mathlib.Core.List.{List, [], ◌∷◌}
+use mathlib.Core.List.{List, [], ◌∷◌, ◌++◌}
+use Rattle.std.specs.Prelude.{Result, Ok, Err, IsOk}
 use mathlib.Core.Option.{Option, none, some}
 use mathlib.Core.Logic.{inl, inr, ⊎_elim}
 use Prim.Native.Nat.{ℕ, suc, ◌+◌, ◌*◌, ◌^◌, ◌≤◌, ◌<◌}
-use native.Mathlib.Nat.{le_of_dvd}
+use native.Mathlib.Nat.{le_of_dvd, zero-add}
 use native.Mathlib.Omega.{arith}
 use lib.ListN.{length, take, drop, get_or, length-append, length-take, length-drop, get_or-eq_default}
-use lib.Seq.{get_or-take, get_or-drop}
+use lib.Seq.{get_or-take, get_or-drop, sets-eq}
+use Rattle.numerals.specs.Output.{Written}
+use Rattle.refusals.specs.declared.Refusal.{Refusal}
+use Rattle.refusals.specs.Told.{told}
+use Rattle.refusals.proofs.Laws.{answered-is, answered-ne-refused}
 use Rattle.numerals.proofs.Decimal.{lt_or-le, length-decimal}
 use Rattle.multipartition.specs.Answers.{Answer, answered, refused}
 use Rattle.multipartition.specs.Cuts.{cost_of}
@@ -28,12 +33,10 @@ use Rattle.job_text.specs.Readable.{largest, Place, Finds}
 use Rattle.job_text.proofs.Bounds.{all-at}
 use Rattle.job_text.proofs.Finds.{finds_unique}
 use Rattle.job_text.proofs.Front.{longest_line, finds_front}
-use Rattle.plan_text.specs.declared.Printed.{Printed}
-use Rattle.plan_text.specs.declared.Printed.TheVariants.{Bytes, Refused}
 use Rattle.plan_text.specs.PlanText.{plan_text, answer_text}
-use Rattle.plan_text.specs.Told.{text_answer, told_printed, length_of, afterwards, Hands}
+use Rattle.plan_text.specs.Told.{text_answer, length_of, afterwards, Hands}
 use Rattle.plan_text.proofs.Lengths.{longest_plan, length-plan_text, length-refused_text}
-use Rattle.plan_text.proofs.Handing.{text_fits, hands_text}
+use Rattle.plan_text.proofs.Handing.{text_fits}
 use Rattle.plan.specs.declared.Texts.{Texts}
 use Rattle.plan.specs.ShareText.{share_text}
 use Rattle.plan.specs.Prints.{job_of_line, program_answer, Prints, Answers, InFront, Runs}
@@ -172,14 +175,28 @@ tells-length input printed told p = rw p.tells (go p.read)
 
 -- ---- the program between its three lists
 
-module _ (text : List ℕ) {lent list : List ℕ} (room : length text ≤ length lent) where
-  told_whole : {printed : Printed} → Hands (text_answer text (length lent)) printed lent list → told_printed printed ≡ answered (length text)
-  told_whole h = h.told ∙ ap length_of (text_fits text (length lent) room)
+-- a text that is handed over whole
+module _ (text : List ℕ) {lent list : List ℕ} {printed : Result ℕ Refusal} (room : length text ≤ length lent) (h : Hands (text_answer text (length lent)) printed lent list) where
+  told_whole : told printed ≡ answered (length text)
+  told_whole = h.told ∙ ap length_of (text_fits text (length lent) room)
 
-  front_handed : {count : ℕ} → Hands (text_answer text (length lent)) (Bytes count) lent list → InFront text lent list count
-  front_handed h =
-      let told = told_whole h in
+  handed_ok : printed ≡ Ok (length text)
+  handed_ok = go printed told_whole
+    where
+      go : (r : Result ℕ Refusal) → told r ≡ answered (length text) → r ≡ Ok (length text)
+      go (Ok count) e = ap Ok (answered-is e)
+      go (Err r) e = absurd (answered-ne-refused (sym e))
+
+  front_handed : {count : ℕ} → printed ≡ Ok count → InFront text lent list count
+  front_handed {count} e =
+      let same : ◌≡◌ {A = Result ℕ Refusal} (Ok count) (Ok (length text)) = sym e ∙ handed_ok in
       record { held = h.held ∙ ap (λ (answer : Answer (List ℕ)). afterwards answer lent) (text_fits text (length lent) room); counted = cc }
+
+-- a text that is written whole
+front_written : {text lent list : List ℕ} {count : ℕ} → length text ≤ length lent → Written lent 0 text list count → InFront text lent list count
+front_written {text} {lent} room w =
+    let place = w.place in
+    record { held = w.contents ∙ sets-eq text lent 0 (omega arith) ∙ ap (λ (k : ℕ). text ++ drop k lent) (zero-add (length text)); counted = omega arith }
 
 module _ {read lent list lent' list' : List ℕ} {texts : Texts} (a : Answers read texts lent list lent' list') (few : length read ≤ 256)
     (room : longest_plan ≤ length lent) (room' : longest_told ≤ length lent') where
@@ -190,22 +207,19 @@ module _ {read lent list lent' list' : List ℕ} {texts : Texts} (a : Answers re
   fits' = omega (arith, tells-length read a.printed a.told a.right)
 
   -- so nothing is refused
-  pub never_refused : (number place : ℕ) → texts.printed ≡ Refused number place → ⊥
-  never_refused number place e =
-      let told : refused number place ≡ answered (length a.printed) = sym (ap told_printed e) ∙ told_whole a.printed fits a.handed in
-      let clash : ◌≡◌ {A = ℕ} 0 1 = cc in
-      absurd (omega arith)
+  pub never_refused : IsOk texts.printed
+  never_refused = rw (handed_ok a.printed fits a.handed) refl
 
   -- and what is written for the front of an input is written for the whole of it
-  pub runs_whole : {front : List ℕ} (places count : ℕ) → read ≡ front → longest_line < places → texts.printed ≡ Bytes count
+  pub runs_whole : {front : List ℕ} (places count : ℕ) → read ≡ front → longest_line < places → texts.printed ≡ Ok count
       → Runs places front lent list lent' list' (record { printed = count; told = texts.told })
   runs_whole places count same enough e = record {
     printed = a.printed;
     told = a.told;
     right = λ input front.
         prints_front input a.printed a.told places enough (subst (λ (t : List ℕ). Prints t a.printed a.told) (same ∙ sym front) a.right);
-    output = front_handed a.printed fits (subst (λ (p : Printed). Hands (text_answer a.printed (length lent)) p lent list) e a.handed);
-    error = front_handed a.told fits' (hands_text fits' a.written);
+    output = front_handed a.printed fits a.handed e;
+    error = front_written fits' a.written;
   }
 
 pub front_within : {bytes lent list : List ℕ} {count : ℕ} → InFront bytes lent list count → count ≤ length list

@@ -2,18 +2,20 @@
 // smallest divisor of p that is refused so, on standard error.
 #![tactic(auto)]
 
-ghost use Rattle.std.specs.Prelude.{◌≡◌, ◌+◌, ◌≤◌, IfOk, min, length, take};
+ghost use Rattle.std.specs.Prelude.{◌≡◌, ◌+◌, ◌≤◌, IfOk, length, take};
+ghost use Rattle.refusals.specs.Told.{told_by, maybe, number_of, place_of};
 ghost use Rattle.numerals.specs.Output.{Written};
-ghost use Rattle.refused_share.specs.Told.{told_share};
-ghost use Rattle.plan_text.specs.Told.{Hands};
+ghost use Rattle.planner.specs.Asked.{asked};
+ghost use Rattle.plan_text.specs.PlanText.{refused_text};
+ghost use Rattle.plan_text.specs.Told.{text_answer, Hands};
 ghost use Rattle.plan.specs.ShareText.{share_text};
 ghost use Rattle.plan.specs.Prints.{job_of_line, Answers, Runs};
-ghost use Rattle.plan.specs.Printed.{Asks, planned_answer};
+ghost use Rattle.plan.specs.Printed.{planned_answer};
 
-use job_text::Line;
-use plan_text::Printed;
-use planner::Planned;
-use refused_share::RefusedShare;
+use layout::Plan;
+use numerals::Output;
+use planner::Job;
+use refusals::Refusal;
 use std::io;
 use std::io::{Read, Write};
 
@@ -28,17 +30,10 @@ const NO_CUTS: [u8; 135] =
 
 const TOLD: usize = 140;
 
-// The two answers to a job: the planner's, and the smallest share that is refused too.
-#[derive(Clone, Copy)]
-struct Asked {
-    planned: Planned,
-    share: RefusedShare,
-}
-
 // What was written into the two lists: the answer of the printing call, and how many bytes are told.
 #[derive(Clone, Copy)]
 struct Texts {
-    printed: Printed,
+    printed: Result<usize, Refusal>,
     told: usize,
 }
 
@@ -49,105 +44,92 @@ struct Counts {
     told: usize,
 }
 
-fn lesser(a: usize, b: usize) -> usize
-    ensures { result ≡ min a b }
+// The job of p, d and the numbers after d.
+fn job_of(p: u32, d: usize, numbers: &[u32]) -> Job<'_>
+    ensures { asked result ≡ job_of_line p d numbers.now }
 {
-    if a < b {
-        return a;
+    let (extents, others) = numbers.split_at(d.min(numbers.len()));
+    let (weights, least) = others.split_at(d.min(others.len()));
+    Job {
+        p,
+        d,
+        extents,
+        weights,
+        least,
     }
-    b
 }
 
-// The answers to p, d and the numbers after d.
-fn ask(p: u32, d: usize, numbers: &[u32]) -> Asked
-    ensures { Asks (job_of_line p d numbers.now) result }
+// A refusal, printed.
+fn print_refusal(refusal: Refusal, out: &mut [u8]) -> Result<usize, Refusal>
+    ensures { Hands (text_answer (refused_text (number_of refusal) (place_of refusal)) (length out.old)) result out.old out.new }
 {
-    let first = lesser(d, numbers.len());
-    let extents = &numbers[..first];
-    let others = &numbers[first..];
-    let second = lesser(d, others.len());
-    let weights = &others[..second];
-    let least = &others[second..];
-    let planned = planner::plan_job(p, d, extents, weights, least);
-    let share = refused_share::smallest_refused(p, d, extents, weights, least);
-    Asked { planned, share }
+    plan_text::print_refused(u64::from(refusal.number()), refusal.place() as u64, out)
 }
 
 // What the planner answered, printed.
-fn print_planned(planned: Planned, out: &mut [u8]) -> Printed
+fn print_planned(planned: Result<Plan, Refusal>, out: &mut [u8]) -> Result<usize, Refusal>
     ensures { Hands (planned_answer planned (length out.old)) result out.old out.new }
 {
-    if planned.number != 0 {
-        return plan_text::print_refused(planned.number as u64, planned.place as u64, out);
+    match planned {
+        Ok(plan) => plan_text::print_plan(plan, out),
+        Err(refusal) => print_refusal(refusal, out),
     }
-    let plan = planned.plan;
-    plan_text::print_plan(plan, out)
 }
 
 // The line with the divisor. Where there is nothing to show, and of another refusal, nothing is written.
-fn put_share(out: &mut [u8], share: RefusedShare) -> usize
-    ensures { Written out.old 0 (share_text (told_share share)) out.new result }
+fn put_share(out: &mut [u8], share: Result<Option<u32>, Refusal>) -> usize
+    ensures { Written out.old 0 (share_text (told_by maybe share)) out.new result }
 {
-    let RefusedShare::Divisor(x) = share else {
+    let Ok(Some(divisor)) = share else {
         return 0;
     };
-    let divisor = [x];
-    let next = numerals::put_bytes(out, 0, &NO_CUTS);
-    numerals::put_numbers(out, next, &divisor)
+    let mut text = Output::new(out);
+    text.bytes(&NO_CUTS);
+    text.numbers(&[divisor]);
+    text.at
 }
 
 // What is written for the input.
 fn answer(input: &[u8], out: &mut [u8], err: &mut [u8]) -> Texts
     ensures { Answers input.now result out.old out.new err.old err.new }
 {
-    let job = job_text::read_job(input);
-    let line = job.line;
-    let Line::Numbers(count) = line else {
-        let printed = plan_text::print_refused(10, job.place as u64, out);
+    let read = job_text::read_job(input);
+    let Ok(numbers) = read else {
+        let refusal = read.unwrap_err();
+        let printed = print_refusal(refusal, out);
         return Texts { printed, told: 0 };
     };
-    let numbers = job.numbers;
-    let asked = ask(numbers[0], numbers[1] as usize, &numbers[2..count]);
-    let planned = asked.planned;
-    let share = asked.share;
+    let job = job_of(numbers[0], numbers[1] as usize, &numbers[2..]);
+    let planned = planner::plan_job(job);
+    let share = refused_share::smallest_refused(job);
     let printed = print_planned(planned, out);
     let told = put_share(err, share);
     Texts { printed, told }
 }
 
 // The program between its three lists: the first n bytes of `input` were read, and it answers how many bytes of `out` and of `err` are to be
-// written. READ bytes settle what is written for the whole input, and ROOM and TOLD places hold it, so that nothing is refused (proofs/Room).
+// written. It takes the whole list, since its places are part of the promise: READ bytes settle what is written for the whole input. ROOM and
+// TOLD places hold it, so that nothing is refused (proofs/Room).
 fn run(input: [u8; READ], n: usize, out: &mut [u8; ROOM], err: &mut [u8; TOLD]) -> Counts
     ensures { Runs (length input) (take n input) out.old out.new err.old err.new result }
 {
-    let read = lesser(n, READ);
+    let read = n.min(READ);
     let texts = answer(&input[..read], out, err);
-    let printed = texts.printed;
-    let told = texts.told;
-    let Printed::Bytes(count) = printed else {
-        return Counts { printed: 0, told };
-    };
+    let count = texts.printed.unwrap();
     Counts {
         printed: count,
-        told,
+        told: texts.told,
     }
-}
-
-// One read into the list, behind its first `done` places.
-fn read_on(reader: &mut impl Read, input: &mut [u8], done: usize) -> io::Result<usize>
-    requires { done ≤ length input.old }
-    ensures { IfOk result (λ n. done + n ≤ length input.old) }
-{
-    reader.read(&mut input[done..])
 }
 
 // Reads until the list is full, the input ends or a read fails, and answers how many bytes were read.
 fn read_input(reader: &mut impl Read, input: &mut [u8]) -> io::Result<usize>
     ensures { IfOk result (λ n. n ≤ length input.old) }
 {
+    // No `for`: a read fills any part of what is left.
     let mut done = 0;
     while done < input.len() {
-        let more = read_on(reader, input, done)?;
+        let more = reader.read(&mut input[done..])?;
         if more == 0 {
             break;
         }

@@ -1,22 +1,20 @@
 -- The lines of a printed plan: a line of the neighbours processor by processor, and the lines of the neighbours by the cut.
-use mathlib.Core.Path.{◌≡◌, refl, ap, ap₂, ◌∙◌}
+use mathlib.Core.Path.{◌≡◌, refl, sym, ap, ◌∙◌}
 use mathlib.Core.Bool.{true}
-use mathlib.Core.List.{List, [], ◌∷◌, ◌++◌, map}
+use mathlib.Core.List.{List, [], ◌∷◌, ◌++◌, map, append_assoc, append-nil}
 use mathlib.Core.Option.{Option, none, some}
-use Prim.Native.Nat.{ℕ, zero, suc, ◌+◌, ◌-◌, ◌≤◌, ◌<◌}
-use native.Mathlib.Nat.{zero-add}
+use Prim.Native.Nat.{ℕ, zero, suc, ◌+◌, ◌-◌, ◌≤◌}
 use native.Mathlib.Numerals.{add-one}
 use native.Mathlib.Omega.{arith}
-use lib.ListN.{get_or, drop}
+use lib.ListN.{get_or}
 use borrow.Author.Tests.{eq-eqb, ne_eqb}
 use Rattle.numerals.specs.Words.{bytes_of}
 use Rattle.numerals.specs.Decimal.{decimal}
-use Rattle.numerals.specs.Lines.{separator, line_of}
-use Rattle.numerals.proofs.Lines.{line_front, front-suc, front_all, separator_before, separator_last}
+use Rattle.numerals.specs.Lines.{line_of}
+use Rattle.numerals.proofs.Lines.{followed, line-followed}
 use Rattle.multipartition.specs.Lists.{list_of}
 use Rattle.multipartition.specs.Plans.{Layout}
 use Rattle.multipartition.specs.Neighbours.{next_owner, neighbour_at}
-use Rattle.multipartition.proofs.Chains.{length-list_of, get_d-list_of}
 use Rattle.plan_text.specs.PlanText.{joined, processors, or_none, up_line}
 
 -- ---- texts one after the other
@@ -31,25 +29,25 @@ joined-add-one n f = ap (λ (k : ℕ). joined k f) (add-one n)
 
 -- ---- a line of numbers f 0, f 1, ..
 
-module _ (n : ℕ) (f : ℕ → ℕ) (i : ℕ) (h : i < n) where
-  front_number : (b : ℕ) → separator (drop (suc i) (list_of 0 n f)) ≡ b
-      → line_front (i + 1) (list_of 0 n f) ≡ line_front i (list_of 0 n f) ++ (decimal (f i) ++ (b ∷ []))
-  front_number b e =
-      let long = length-list_of 0 n f in
-      ap (λ (k : ℕ). line_front k (list_of 0 n f)) (add-one i)
-      ∙ front-suc (list_of 0 n f) i (omega arith)
-      ∙ ap₂ {C = List ℕ} (λ v s. line_front i (list_of 0 n f) ++ (decimal v ++ (s ∷ []))) (get_d-list_of 0 n f i h ∙ ap f (zero-add i)) e
+pub followed_none : (f : ℕ → ℕ) → followed (list_of 1 0 f) ≡ []
+unfolding list_of
+followed_none f = refl
 
-  -- a number that others follow
-  pub front_space : i + 1 < n → line_front (i + 1) (list_of 0 n f) ≡ line_front i (list_of 0 n f) ++ (decimal (f i) ++ (32 ∷ []))
-  front_space l = let long = length-list_of 0 n f in front_number 32 (separator_before (list_of 0 n f) (suc i) (omega arith))
+pub followed_more : (from n : ℕ) (f : ℕ → ℕ) → followed (list_of from (suc n) f) ≡ followed (list_of from n f) ++ (32 ∷ decimal (f (from + n)))
+unfolding list_of
+followed_more from zero f =
+    let e : from + 0 ≡ from = omega arith in
+    ap (λ (t : List ℕ). 32 ∷ t) (append-nil (decimal (f from))) ∙ ap (λ (m : ℕ). 32 ∷ decimal (f m)) (sym e)
+followed_more from (suc n) f =
+    let e : suc from + n ≡ from + suc n = omega arith in
+    ap (λ (t : List ℕ). 32 ∷ (decimal (f from) ++ t)) (followed_more (suc from) n f)
+    ∙ ap (λ (m : ℕ). 32 ∷ (decimal (f from) ++ (followed (list_of (suc from) n f) ++ (32 ∷ decimal (f m))))) e
+    ∙ ap (λ (t : List ℕ). 32 ∷ t) (sym (append_assoc (decimal (f from)) (followed (list_of (suc from) n f)) (32 ∷ decimal (f (from + suc n)))))
 
-  -- the last
-  pub front_newline : n ≤ i + 1 → line_front (i + 1) (list_of 0 n f) ≡ line_front i (list_of 0 n f) ++ (decimal (f i) ++ (10 ∷ []))
-  front_newline l = let long = length-list_of 0 n f in front_number 10 (separator_last (list_of 0 n f) (suc i) (omega arith))
-
-pub front_whole : (n : ℕ) (f : ℕ → ℕ) (i : ℕ) → n ≤ i → line_front i (list_of 0 n f) ≡ line_of (list_of 0 n f)
-front_whole n f i h = let long = length-list_of 0 n f in front_all (list_of 0 n f) i (omega arith)
+-- the line of n + 1 numbers: the first, the others, and the newline
+pub line_first : (n : ℕ) (f : ℕ → ℕ) → line_of (list_of 0 (suc n) f) ≡ decimal (f 0) ++ (followed (list_of 1 n f) ++ (10 ∷ []))
+unfolding list_of
+line_first n f = line-followed (f 0) (list_of 1 n f)
 
 -- ---- the line of dimension k, counted from 0, by its cut
 

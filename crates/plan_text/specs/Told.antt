@@ -1,11 +1,11 @@
 -- What the printing calls answer in document 01's terms, together with the lent list.
-use Rattle.std.specs.Prelude.{◌≡◌, List, [], ◌∷◌, ◌++◌, ℕ, ltb, length, drop}
+use Rattle.std.specs.Prelude.{Result, ◌≡◌, List, [], ◌∷◌, ◌++◌, ℕ, ltb, length, drop}
 use Rattle.multipartition.specs.Answers.{Answer, answered, refused, Check, checked}
 use Rattle.multipartition.specs.Plans.{Layout}
 use Rattle.multipartition.specs.Questions.{shape_check}
 use Rattle.plan_text.specs.PlanText.{plan_text}
-use Rattle.plan_text.specs.declared.Printed.{Printed}
-use Rattle.plan_text.specs.declared.Printed.TheVariants as P
+use Rattle.refusals.specs.declared.Refusal.{Refusal}
+use Rattle.refusals.specs.Told as refusals
 
 -- a list of fewer places than the text has bytes is a 9
 abbrev pub room_check : List ℕ → ℕ → Check
@@ -19,11 +19,7 @@ text_answer text places = checked (room_check text places ∷ []) (answered text
 unfoldable pub print_answer : Layout → ℕ → Answer (List ℕ)
 print_answer plan places = checked (shape_check plan ∷ []) (text_answer (plan_text plan) places)
 
--- how many bytes the text has, or a refusal with its number and place
-abbrev pub told_printed : Printed → Answer ℕ
-told_printed (P.Bytes count) = answered count
-told_printed (P.Refused number place) = refused number place
-
+-- how many bytes the text of an answer has, or its refusal
 abbrev pub length_of : Answer (List ℕ) → Answer ℕ
 length_of (answered text) = answered (length text)
 length_of (refused number place) = refused number place
@@ -34,6 +30,6 @@ afterwards (answered text) lent = text ++ drop (length text) lent
 afterwards (refused number place) lent = lent
 
 -- a printing call that answers so, for a list that held `lent` and now holds `list`
-pub record Hands (answer : Answer (List ℕ)) (printed : Printed) (lent list : List ℕ) : Type 0 where
-  pub told : told_printed printed ≡ length_of answer
+pub record Hands (answer : Answer (List ℕ)) (printed : Result ℕ Refusal) (lent list : List ℕ) : Type 0 where
+  pub told : refusals.told printed ≡ length_of answer
   pub held : list ≡ afterwards answer lent

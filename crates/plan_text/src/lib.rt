@@ -1,20 +1,20 @@
-// The printer of the plan, into a lent list of bytes. The private functions `put_..` write from place `at` on, or from the front where they
-// have no `at`, and answer the place after what they wrote; a byte for which the list has no place is left out. The calls hand over whole texts.
+// The printer of the plan, into a lent list of bytes. The private functions `put_..` put their text into an output; a byte for which its list has no
+// place is left out. The calls hand over whole texts.
 #![tactic(auto)]
 
-ghost use Rattle.std.specs.Prelude.{true, [], ◌∷◌, ◌++◌, suc, ◌<◌, ◌≤◌, length, take};
+ghost use Rattle.std.specs.Prelude.{true, [], ◌∷◌, ◌++◌, suc, ◌≤◌, length, take};
 ghost use Rattle.numerals.specs.Words.{bytes_of};
 ghost use Rattle.numerals.specs.Lines.{line_of};
-ghost use Rattle.numerals.specs.Output.{Written};
+ghost use Rattle.numerals.specs.Puts.{Puts};
 ghost use Rattle.multipartition.specs.Lists.{list_of};
 ghost use Rattle.multipartition.specs.Neighbours.{next_owner};
 ghost use Rattle.layout.specs.Plans.{rows_from, layout_of};
-ghost use Rattle.layout.specs.Shaped.{Shaped};
-ghost use Rattle.questions.specs.Bounds.{Reduced};
 ghost use Rattle.plan_text.specs.PlanText.{joined, row_line, up_line, plan_text, refused_text};
 ghost use Rattle.plan_text.specs.Told.{text_answer, print_answer, Hands};
 
-use layout::Plan;
+use layout::{Axis, Plan, ShapedPlan};
+use numerals::Output;
+use refusals::Refusal;
 
 // The words that open the lines, and the one in the neighbours' stead.
 const PLAN: [u8; 5] = *b"plan ";
@@ -38,159 +38,128 @@ pub const LONGEST_PLAN: usize = 102667;
 
 const LONGEST_REFUSED: usize = 50;
 
-// The answer of a printing call: the text, of so many bytes, stands at the front of the lent list, or the list is as it was.
-#[derive(Clone, Copy)]
-pub enum Printed {
-    Bytes(usize),
-    Refused { number: u32, place: u32 },
-}
-
 // A word and a line of numbers.
-fn put_line(out: &mut [u8], at: usize, word: &[u8], numbers: &[u32]) -> usize
-    ensures { Written out.old at (word.now ++ line_of numbers.now) out.new result }
+fn put_line(out: &mut Output, word: &[u8], numbers: &[u32])
+    ensures { Puts out.old (word.now ++ line_of numbers.now) out.new }
 {
-    let next = numerals::put_bytes(out, at, word);
-    numerals::put_numbers(out, next, numbers)
+    out.bytes(word);
+    out.numbers(numbers);
 }
 
 // The line of the cost.
-fn put_cost(out: &mut [u8], at: usize, cost: u64) -> usize
-    ensures { Written out.old at (bytes_of "cost " ++ line_of (cost ∷ [])) out.new result }
+fn put_cost(out: &mut Output, cost: u64)
+    ensures { Puts out.old (bytes_of "cost " ++ line_of (cost ∷ [])) out.new }
 {
-    let mut next = numerals::put_bytes(out, at, &COST);
-    next = numerals::put_decimal(out, next, cost);
-    numerals::put_byte(out, next, 10)
-}
-
-// The line of row i.
-fn put_row(out: &mut [u8], at: usize, matrix: [u32; 25], d: usize, i: usize) -> usize
-    requires { (d ≤ 5) × (i < d) }
-    ensures { Written out.old at (row_line (rows_from d 0 d matrix) i) out.new result }
-{
-    let from = i * 5;
-    put_line(out, at, &ROW, &matrix[from..from + d])
+    out.bytes(&COST);
+    out.decimal(cost);
+    out.byte(b'\n');
 }
 
 // The lines of the d rows.
-fn put_rows(out: &mut [u8], at: usize, matrix: [u32; 25], d: usize) -> usize
-    requires { d ≤ 5 }
-    ensures { Written out.old at (joined d (row_line (rows_from d 0 d matrix))) out.new result }
+fn put_rows(out: &mut Output, shaped: ShapedPlan)
+    ensures { Puts out.old (joined shaped.plan.d (row_line (layout_of shaped.plan).matrix)) out.new }
 {
-    let mut next = at;
-    for i in 0..d {
-        next = put_row(out, next, matrix, d, i);
+    let d = shaped.plan.d;
+    let (rows, _) = shaped.plan.matrix.as_chunks::<5>();
+    for row in &rows[..d] {
+        put_line(out, &ROW, &row[..d]);
     }
-    next
 }
 
-// The upward neighbours of processors 0 to p - 1 along dimension k, counted from 0.
-fn put_neighbours(out: &mut [u8], at: usize, plan: Plan, k: usize) -> usize
-    requires { (Reduced plan.d plan.moduli plan.matrix) × (k < plan.d) }
-    ensures { Written out.old at (line_of (list_of 0 plan.p (next_owner (take plan.d plan.moduli) (rows_from plan.d 0 plan.d plan.matrix) k true))) out.new result }
+// The upward neighbours of processors 0 to p - 1 along a dimension. `Output::numbers` would take them as a list of up to 4,096 places.
+fn put_neighbours(out: &mut Output, axis: Axis)
+    ensures { Puts out.old (line_of (list_of 0 axis.shaped.plan.p (next_owner (take axis.shaped.plan.d axis.shaped.plan.moduli) (rows_from axis.shaped.plan.d 0 axis.shaped.plan.d axis.shaped.plan.matrix) axis.k true))) out.new }
 {
-    let d = plan.d;
-    let p = plan.p;
-    let mut next = at;
-    let mut q = 0;
-    while q < p {
-        let n = questions::neighbour_number(d, &plan.moduli, &plan.matrix, k, true, q);
-        next = numerals::put_decimal(out, next, n as u64);
-        q += 1;
-        next = numerals::put_byte(out, next, if q < p { 32 } else { 10 });
+    let owners = questions::owners(&axis.shaped);
+    let k = axis.k;
+    out.decimal(u64::from(owners.neighbour(k, true, 0)));
+    for q in 1..axis.shaped.plan.p {
+        out.byte(b' ');
+        out.decimal(u64::from(owners.neighbour(k, true, q)));
     }
-    next
+    out.byte(b'\n');
 }
 
-// The line of the neighbours along dimension k, counted from 0.
-fn put_up(out: &mut [u8], at: usize, plan: Plan, k: usize) -> usize
-    requires { (Shaped plan) × (k < plan.d) }
-    ensures { Written out.old at (up_line (layout_of plan) (suc k)) out.new result }
+// The line of the neighbours along a dimension.
+fn put_up(out: &mut Output, axis: Axis)
+    ensures { Puts out.old (up_line (layout_of axis.shaped.plan) (suc axis.k)) out.new }
 {
-    let mut next = numerals::put_bytes(out, at, &UP);
-    next = numerals::put_decimal(out, next, (k + 1) as u64);
-    next = numerals::put_byte(out, next, 32);
-    if plan.cuts[k] == 1 {
-        return numerals::put_bytes(out, next, &NONE);
+    out.bytes(&UP);
+    out.decimal(axis.k as u64 + 1);
+    out.byte(b' ');
+    if axis.cut() == 1 {
+        out.bytes(&NONE);
+        return;
     }
-    put_neighbours(out, next, plan, k)
+    put_neighbours(out, axis);
 }
 
 // The lines of the neighbours.
-fn put_ups(out: &mut [u8], at: usize, plan: Plan) -> usize
-    requires { Shaped plan }
-    ensures { Written out.old at (joined plan.d (λ i. up_line (layout_of plan) (suc i))) out.new result }
+fn put_ups(out: &mut Output, shaped: ShapedPlan)
+    ensures { Puts out.old (joined shaped.plan.d (λ i. up_line (layout_of shaped.plan) (suc i))) out.new }
 {
-    let d = plan.d;
-    let mut next = at;
-    for k in 0..d {
-        next = put_up(out, next, plan, k);
+    // An index: it is the place of the dimension, by which an axis is made.
+    for k in 0..shaped.plan.d {
+        put_up(out, Axis { shaped, k });
     }
-    next
 }
 
-// The lines of a plan in shape.
-fn put_plan(out: &mut [u8], plan: Plan) -> usize
-    requires { Shaped plan }
-    ensures { Written out.old 0 (plan_text (layout_of plan)) out.new result }
+// The lines of a plan.
+fn put_plan(out: &mut Output, shaped: ShapedPlan)
+    ensures { Puts out.old (plan_text (layout_of shaped.plan)) out.new }
 {
+    let plan = shaped.plan;
     let d = plan.d;
-    let head = [plan.p, d as u32];
-    let cuts = plan.cuts;
-    let moduli = plan.moduli;
-    let matrix = plan.matrix;
-    let mut next = put_line(out, 0, &PLAN, &head);
-    next = put_line(out, next, &CUTS, &cuts[..d]);
-    next = put_cost(out, next, plan.cost);
-    next = put_line(out, next, &MOD, &moduli[..d]);
-    next = put_rows(out, next, matrix, d);
-    put_ups(out, next, plan)
+    put_line(out, &PLAN, &[plan.p, d as u32]);
+    put_line(out, &CUTS, &plan.cuts[..d]);
+    put_cost(out, plan.cost);
+    put_line(out, &MOD, &plan.moduli[..d]);
+    put_rows(out, shaped);
+    put_ups(out, shaped);
 }
 
 // The line of a refusal.
-fn put_refused(out: &mut [u8], number: u64, place: u64) -> usize
-    ensures { Written out.old 0 (refused_text number place) out.new result }
+fn put_refused(out: &mut Output, number: u64, place: u64)
+    ensures { Puts out.old (refused_text number place) out.new }
 {
-    let mut next = numerals::put_bytes(out, 0, &REFUSED);
-    next = numerals::put_decimal(out, next, number);
-    next = numerals::put_byte(out, next, 32);
-    next = numerals::put_decimal(out, next, place);
-    numerals::put_byte(out, next, 10)
+    out.bytes(&REFUSED);
+    out.decimal(number);
+    out.byte(b' ');
+    out.decimal(place);
+    out.byte(b'\n');
 }
 
-// A whole text to the front of the lent list, if there is room for all of it.
-fn hand_over(text: &[u8], out: &mut [u8]) -> Printed
+// A whole text to the front of the lent list, if there is room for all of it, and how many bytes it has.
+fn hand_over(text: &[u8], out: &mut [u8]) -> Result<usize, Refusal>
     ensures { Hands (text_answer text.now (length out.old)) result out.old out.new }
 {
-    if out.len() < text.len() {
-        return Printed::Refused {
-            number: 9,
-            place: 0,
-        };
+    let n = text.len();
+    if out.len() < n {
+        return Err(Refusal::Room);
     }
-    let count = numerals::put_bytes(out, 0, text);
-    Printed::Bytes(count)
+    out[..n].copy_from_slice(text);
+    Ok(n)
 }
 
 // Prints a refusal.
-pub fn print_refused(number: u64, place: u64, out: &mut [u8]) -> Printed
+pub fn print_refused(number: u64, place: u64, out: &mut [u8]) -> Result<usize, Refusal>
     ensures { Hands (text_answer (refused_text number place) (length out.old)) result out.old out.new }
 {
-    let mut text = [0u8; LONGEST_REFUSED];
-    let n = put_refused(&mut text, number, place);
-    hand_over(&text[..n], out)
+    let mut list = [0u8; LONGEST_REFUSED];
+    let mut text = Output::new(&mut list);
+    put_refused(&mut text, number, place);
+    let n = text.at;
+    hand_over(&list[..n], out)
 }
 
 // Prints a plan. The text is made in a list of its own, since its length is known only then and a refusal leaves the lent list as it was.
-pub fn print_plan(plan: Plan, out: &mut [u8]) -> Printed
+pub fn print_plan(plan: Plan, out: &mut [u8]) -> Result<usize, Refusal>
     ensures { Hands (print_answer (layout_of plan) (length out.old)) result out.old out.new }
 {
-    if !layout::in_shape(plan) {
-        return Printed::Refused {
-            number: 6,
-            place: 0,
-        };
-    }
-    let mut text = [0u8; LONGEST_PLAN];
-    let n = put_plan(&mut text, plan);
-    hand_over(&text[..n], out)
+    let shaped = plan.checked()?;
+    let mut list = [0u8; LONGEST_PLAN];
+    let mut text = Output::new(&mut list);
+    put_plan(&mut text, shaped);
+    let n = text.at;
+    hand_over(&list[..n], out)
 }

@@ -1,23 +1,31 @@
--- From the cuts that the search chooses to the planner's answer.
+-- From the cuts that the search finds to the planner's answer.
 use mathlib.Core.Path.{◌≡◌, refl, sym, ap, ◌∙◌}
-use mathlib.Core.Bool.{Bool, true, false}
 use mathlib.Core.List.{List, ◌++◌}
 use mathlib.Core.Option.{Option, none, some}
 use Prim.Native.Nat.{ℕ, ◌-◌, ◌≤◌}
 use native.Mathlib.Omega.{arith}
 use lib.ListN.{length, take, replicate, length-append, length-replicate}
 use lib.Seq.{take_at}
-use Rattle.multipartition.specs.Answers.{refused}
-use Rattle.multipartition.specs.Cuts.{cost_of, cheapest_within}
+use Rattle.std.specs.Prelude.{Result, Ok, Err}
+use Rattle.std.specs.Option.{ok_or}
+use Rattle.multipartition.specs.Answers.{answered}
+use Rattle.multipartition.specs.Cuts.{cost_of, most_of}
 use Rattle.multipartition.specs.Plans.{Job, layout_with}
 use Rattle.multipartition.specs.Jobs.{cheapest_for, plan_with}
 use Rattle.multipartition.proofs.Cheapest.{cheapest_within_lem}
 use Rattle.multipartition.proofs.Fitting.{within-length}
+use Rattle.refusals.specs.declared.Refusal.{Refusal}
+use Rattle.refusals.specs.declared.Refusal.TheVariants.{NoCuts}
+use Rattle.refusals.specs.Told.{turned_back, told}
+use Rattle.refusals.proofs.Laws.{answered-ne-refused, answered-is, refused-as}
 use Rattle.layout.specs.declared.Plan.{Plan}
 use Rattle.layout.specs.Plans.{five, plan_of}
+use Rattle.cuts.specs.declared.Found.{Found}
+use Rattle.cuts.specs.Found.{found_of}
 use Rattle.matrix.proofs.Padding.{at-padded, is_five_lem}
-use Rattle.planner.specs.Planned.{planned_of}
-use Rattle.cuts.specs.Found.{is_chosen, chosen_cost, chosen_cuts, Chosen}
+use Rattle.planner.specs.Asked.{Measured}
+use Rattle.planner.proofs.Slabs.{bounds-length}
+use Rattle.planner.specs.Planned.{planned_answer}
 
 -- zeros up to five places
 padded-is_five : (u : List ℕ) → length u ≤ 5 → u ++ replicate (5 - length u) 0 ≡ five u
@@ -26,45 +34,50 @@ padded-is_five u l =
     (omega (arith, length-append u (replicate (5 - length u) 0), length-replicate {A = ℕ} (5 - length u) 0))
     (λ k h. at-padded u (5 - length u) k)
 
--- the cuts of an answer in d dimensions, with no cuts after dimension d
-pub record Cut (p d : ℕ) (most weights : List ℕ) (cost : ℕ) (cuts : List ℕ) : Type 0 where
-  pub chosen : cheapest_within p most weights ≡ some (take d cuts)
-  pub zeros : cuts ≡ five (take d cuts)
-  pub summed : cost ≡ cost_of weights (take d cuts)
+module _ (job : Job) where
+  -- what the search told
+  abbrev pub Told : Result Found Refusal → Type 0
+  Told r = r ≡ ok_or (found_of job.weights (cheapest_for job)) NoCuts
 
-module _ (p : ℕ) (most weights : List ℕ) (cost : ℕ) (cuts : List ℕ) where
-  pub cut : (d : ℕ) → length most ≡ d → d ≤ 5 → (ok : Bool) → ok ≡ true → Chosen p most weights ok cost cuts → Cut p d most weights cost cuts
-  cut d same_length few ok t chosen = go (cheapest_within p most weights) refl (sym t ∙ chosen.ok_is) chosen.cost_is chosen.cuts_are
+  -- no cuts
+  pub refused-5 : (e : Refusal) → Told (Err e) → turned_back e ≡ planned_answer (plan_with job (cheapest_for job))
+  unfolding plan_with
+  refused-5 e = go (cheapest_for job)
     where
-      go : (o : Option (List ℕ)) → cheapest_within p most weights ≡ o → true ≡ is_chosen o → cost ≡ chosen_cost weights o → cuts ≡ chosen_cuts o
-          → Cut p d most weights cost cuts
-      go none e f g h = let clash : ◌≡◌ {A = ℕ} 0 1 = cc in absurd (omega arith)
-      go (some u) e f g h = record {
+      go : (o : Option (List ℕ)) → ◌≡◌ {A = Result Found Refusal} (Err e) (ok_or (found_of job.weights o) NoCuts) → turned_back e ≡ planned_answer (plan_with job o)
+      go none h = refused-as (ap told h)
+      go (some u) h = absurd (answered-ne-refused (sym (ap told h)))
+
+  -- the cuts of d dimensions, with zeros after them
+  pub record Cut (found : Found) : Type 0 where
+    pub chosen : cheapest_for job ≡ some (take job.d found.cuts)
+    pub zeros : found.cuts ≡ five (take job.d found.cuts)
+    pub summed : found.cost ≡ cost_of job.weights (take job.d found.cuts)
+
+  pub cut : Measured job → (found : Found) → Told (Ok found) → Cut found
+  cut measured found = go (cheapest_for job) refl
+    where
+      go : (o : Option (List ℕ)) → cheapest_for job ≡ o → ◌≡◌ {A = Result Found Refusal} (Ok found) (ok_or (found_of job.weights o) NoCuts) → Cut found
+      go none e h = absurd (answered-ne-refused (ap told h))
+      go (some u) e h = record {
         chosen = e ∙ ap some (sym front);
-        zeros = h ∙ padded-is_five u (omega (arith, many, few)) ∙ ap five (sym front);
-        summed = g ∙ ap (cost_of weights) (sym front);
+        zeros = ap (λ (f : Found). f.cuts) is ∙ padded-is_five u (omega (arith, many, measured.d_high)) ∙ ap five (sym front);
+        summed = ap (λ (f : Found). f.cost) is ∙ ap (cost_of job.weights) (sym front);
       }
         where
-          many : length u ≡ d
-          many = within-length most u (cheapest_within_lem p most weights u e) ∙ same_length
+          is : found ≡ record { cost = cost_of job.weights u; cuts = u ++ replicate (5 - length u) 0 }
+          is = answered-is (ap told h)
 
-          front : take d cuts ≡ u
-          front = ap (take d) h ∙ take_at u (replicate (5 - length u) 0) d many
+          many : length u ≡ job.d
+          many =
+              within-length (most_of job.extents job.least) u (cheapest_within_lem job.p (most_of job.extents job.least) job.weights u e)
+              ∙ bounds-length job measured
 
-  pub no_cut : (ok : Bool) → ok ≡ false → Chosen p most weights ok cost cuts → cheapest_within p most weights ≡ none
-  no_cut ok t chosen = go (cheapest_within p most weights) (sym t ∙ chosen.ok_is)
-    where
-      go : (o : Option (List ℕ)) → false ≡ is_chosen o → o ≡ none
-      go none f = refl
-      go (some u) f = let clash : ◌≡◌ {A = ℕ} 0 1 = cc in absurd (omega arith)
+          front : take job.d found.cuts ≡ u
+          front = ap (λ (f : Found). take job.d f.cuts) is ∙ take_at u (replicate (5 - length u) 0) job.d many
 
--- the answer with the cuts chosen, and where there are none
-module _ (job : Job) where
+  -- the answer with them
   pub answered_with : (u : List ℕ) (plan : Plan) → cheapest_for job ≡ some u → plan ≡ plan_of (layout_with job u)
-      → record { number = 0; place = 0; plan = plan } ≡ planned_of (plan_with job (cheapest_for job))
-  unfolding planned_of plan_with
-  answered_with u plan e f = (λ i. record { number = 0; place = 0; plan = f i }) ∙ sym (ap (λ (o : Option (List ℕ)). planned_of (plan_with job o)) e)
-
-  pub refused-5 : cheapest_for job ≡ none → planned_of (refused 5 0) ≡ planned_of (plan_with job (cheapest_for job))
+      → answered plan ≡ planned_answer (plan_with job (cheapest_for job))
   unfolding plan_with
-  refused-5 e = sym (ap (λ (o : Option (List ℕ)). planned_of (plan_with job o)) e)
+  answered_with u plan e f = ap answered f ∙ sym (ap (λ (o : Option (List ℕ)). planned_answer (plan_with job o)) e)

@@ -1,5 +1,6 @@
 pub mod Given
-pub mod Refusals
-pub mod FirstFails
-pub mod Choices
 pub mod Answers
+pub mod Places
+pub mod Checks
+pub mod Slabs
+pub mod Choices

@@ -1,17 +1,34 @@
 -- What the planner answers (document 01, "Where each call turns back").
-use Rattle.std.specs.Prelude.{cond, List, [], ◌∷◌}
-use Rattle.multipartition.specs.Answers.{Answer, answered, refused, Check}
-use Rattle.multipartition.specs.Plans.{Layout}
-use Rattle.layout.specs.Plans.{plan_of, no_plan}
-use Rattle.planner.specs.declared.Planned.{Planned}
-use Rattle.planner.specs.declared.Turned.{Turned}
+use Rattle.std.specs.Prelude.{[], ◌∷◌, List}
+use Rattle.multipartition.specs.Answers.{Answer, answered, refused, Check, checked}
+use Rattle.multipartition.specs.Jobs.{dimensions_check, processors_check, lengths_check, extents_check, least_check, job_checks}
+use Rattle.multipartition.specs.Plans.{Job, Layout}
+use Rattle.layout.specs.declared.Plan.{Plan}
+use Rattle.layout.specs.Plans.{plan_of}
+use Rattle.planner.specs.declared.jobs.PassedJob.{PassedJob}
+use Rattle.planner.specs.Asked.{asked}
 
--- "A refusal carries its number and a place (0 unless named), every other part of the answer is zero"; a plan has number and place zero
-unfoldable pub planned_of : Answer Layout → Planned
-planned_of (answered layout) = record { number = 0; place = 0; plan = plan_of layout }
-planned_of (refused number place) = record { number = number; place = place; plan = no_plan }
+-- an answer, with the plan by value; "a refusal carries its number and a place (0 unless named)"
+abbrev pub planned_answer : Answer Layout → Answer Plan
+planned_answer (answered layout) = answered (plan_of layout)
+planned_answer (refused number place) = refused number place
 
--- "the first that applies": number and place of the first line that turns a call down, zeros where none does
-abbrev pub first_fails : List Check → Turned
-first_fails [] = record { number = 0; place = 0 }
-first_fails (c ∷ checks) = cond c.fails (record { number = c.number; place = c.place }) (first_fails checks)
+-- the lines 1 and 2 of the table
+abbrev pub size_checks : Job → List Check
+size_checks job = dimensions_check job.d ∷ processors_check job.p ∷ []
+
+-- the lines 3 and 4, and 13
+abbrev pub list_checks : Job → List Check
+list_checks job = lengths_check job ∷ extents_check job ∷ least_check job ∷ []
+
+-- a job that passes them all
+abbrev pub job_answer : Job → Answer Job
+job_answer job = checked (job_checks job) (answered job)
+
+-- the same of a job that passes the lines 1 and 2
+abbrev pub lists_answer : Job → Answer Job
+lists_answer job = checked (list_checks job) (answered job)
+
+-- the job that passed
+abbrev pub passed_job : PassedJob → Job
+passed_job passed = asked passed.job

@@ -1,258 +1,181 @@
 // Planning: the answer to a job is a plan or a refusal.
 #![tactic(auto)]
 
-ghost use Rattle.std.specs.Prelude.{◌≡◌, ◌/◌, ◌≤◌, length, take, replicate};
-ghost use Rattle.multipartition.specs.Answers.{refused as refusal};
-ghost use Rattle.multipartition.specs.Cuts.{Thick, most_of, cost_of, cheapest};
-ghost use Rattle.multipartition.specs.Plans.{least_of, job_with, layout_with, between};
-ghost use Rattle.multipartition.specs.Jobs.{first_outside, first_zero, job_checks, plan_with, plan_answer};
-ghost use Rattle.layout.specs.Plans.{five, plan_of};
-ghost use Rattle.planner.specs.Planned.{first_fails, planned_of};
-ghost use Rattle.cuts.specs.Found.{Asked, Chosen};
+ghost use Rattle.std.specs.Prelude.{[], ◌∷◌, ◌≡◌, ◌≤◌, length};
+ghost use Rattle.multipartition.specs.Answers.{answered, checked};
+ghost use Rattle.multipartition.specs.Cuts.{most_of};
+ghost use Rattle.multipartition.specs.Jobs.{lengths_check, extents_check, least_check, plan_with, plan_answer, cheapest_for};
+ghost use Rattle.refusals.specs.Told.{told, told_by};
+ghost use Rattle.layout.specs.Plans.{five};
+ghost use Rattle.cuts.specs.Found.{found_of};
+ghost use Rattle.planner.specs.Asked.{asked};
+ghost use Rattle.planner.specs.Planned.{planned_answer, size_checks, lists_answer, job_answer, passed_job};
 
+pub use crate::jobs::PassedJob;
 use cuts::{Found, cheapest_cuts};
 use layout::Plan;
 use matrix::{matrix_of, moduli_of};
+use refusals::Refusal;
 
-// A plan, with number and place zero; or a refusal's number and place, with a plan of zeros.
+mod jobs; // jobs.rt: a job that has passed its checks
+
+// A job as it is asked: its lists are lent. An empty list of least thicknesses stands for 1 in every dimension.
 #[derive(Clone, Copy)]
-pub struct Planned {
-    pub number: u32,
-    pub place: u32,
-    pub plan: Plan,
+pub struct Job<'a> {
+    pub p: u32,
+    pub d: usize,
+    pub extents: &'a [u32],
+    pub weights: &'a [u32],
+    pub least: &'a [u32],
 }
 
-// The number and place of a refusal, or zeros.
-#[derive(Clone, Copy)]
-pub struct Turned {
-    pub number: u32,
-    pub place: u32,
-}
-
-// A refusal, all else zero.
-pub fn refused(number: u32, place: u32) -> Planned
-    ensures { result ≡ planned_of (refusal number place) }
-{
-    let none = layout::no_plan();
-    Planned {
-        number: number,
-        place: place,
-        plan: none,
-    }
-}
-
-// At most five numbers, with zeros after them.
-fn padded(numbers: &[u32]) -> [u32; 5]
-    requires { length numbers.now ≤ 5 }
+// Two to five numbers, with zeros after them. They are named one by one: after a copy of the whole list, a single number of it takes long to read.
+pub fn padded(numbers: &[u32]) -> [u32; 5]
+    requires { (2 ≤ length numbers.now) × (length numbers.now ≤ 5) }
     ensures { result ≡ five numbers.now }
 {
-    let mut places: [u32; 5] = [0; 5];
-    for k in 0..numbers.len() {
-        places[k] = numbers[k];
+    match *numbers {
+        [a, b] => [a, b, 0, 0, 0],
+        [a, b, c] => [a, b, c, 0, 0],
+        [a, b, c, d] => [a, b, c, d, 0],
+        [a, b, c, d, e] => [a, b, c, d, e],
+        _ => unreachable!(),
     }
-    places
 }
 
-// Whether an extent is in range.
-fn in_range(extent: u32) -> bool
-    ensures { result ≡ between 1 1000000 extent }
-{
-    (1 <= extent) & (extent <= 1000000)
-}
+impl<'a> Job<'a> {
+    // The lines 1 and 2 of the table.
+    pub fn sizes_checked(self) -> Result<(), Refusal>
+        ensures { told result ≡ checked (size_checks (asked self.entry)) (answered tt) }
+    {
+        if !(2..=5).contains(&self.d) {
+            return Err(Refusal::Dimensions);
+        }
+        if !(1..=4096).contains(&self.p) {
+            return Err(Refusal::Processors);
+        }
+        Ok(())
+    }
 
-// The first dimension, counted from 1, whose extent is out of range; 0 if there is none.
-pub fn first_outside(extents: &[u32]) -> u32
-    requires { length extents.now ≤ 5 }
-    ensures { result ≡ first_outside extents.now }
-{
-    let mut place: u32 = 0;
-    for k in 0..extents.len() {
-        place = place + 1;
-        if !in_range(extents[k]) {
-            return place;
+    // Line 3: there are d extents and weights, and d least thicknesses or none.
+    fn lengths_checked(self) -> Result<(), Refusal>
+        ensures { told result ≡ checked (lengths_check (asked self.entry) ∷ []) (answered tt) }
+    {
+        let d = self.d;
+        if self.extents.len() != d || self.weights.len() != d {
+            return Err(Refusal::Lengths);
+        }
+        if !self.least.is_empty() && self.least.len() != d {
+            return Err(Refusal::Lengths);
+        }
+        Ok(())
+    }
+
+    // Line 4: no extent is out of range.
+    pub fn extents_checked(self) -> Result<(), Refusal>
+        requires { length self.extents.now ≤ 5 }
+        ensures { told result ≡ checked (extents_check (asked self.entry) ∷ []) (answered tt) }
+    {
+        match self
+            .extents
+            .iter()
+            .position(|n| !(1..=1_000_000).contains(n))
+        {
+            Some(k) => Err(Refusal::Extent(k as u32 + 1)),
+            None => Ok(()),
         }
     }
-    0
-}
 
-// The first dimension, counted from 1, whose least thickness is 0; 0 if there is none.
-pub fn first_zero(least: &[u32]) -> u32
-    requires { length least.now ≤ 5 }
-    ensures { result ≡ first_zero least.now }
-{
-    let mut dimension: u32 = 0;
-    for k in 0..least.len() {
-        dimension = dimension + 1;
-        if least[k] < 1 {
-            return dimension;
+    // Line 13: no least thickness is 0.
+    pub fn least_checked(self) -> Result<(), Refusal>
+        requires { length self.least.now ≤ 5 }
+        ensures { told result ≡ checked (least_check (asked self.entry) ∷ []) (answered tt) }
+    {
+        match self.least.iter().position(|t| *t == 0) {
+            Some(k) => Err(Refusal::Thickness(k as u32 + 1)),
+            None => Ok(()),
         }
     }
-    0
-}
 
-// The most slabs that fit an extent: it divided by the least thickness, rounded down.
-fn most_of(extent: u32, least: u32) -> u32
-    requires { 1 ≤ least }
-    ensures { result ≡ extent / least }
-{
-    extent / least
-}
-
-// The most slabs of each dimension, by its least thickness.
-fn quotients(extents: &[u32], least: &[u32]) -> [u32; 5]
-    requires { (length extents.now ≤ 5) × (Thick extents.now least.now) }
-    ensures { result ≡ five (most_of extents.now least.now) }
-{
-    let mut most: [u32; 5] = [0; 5];
-    for k in 0..extents.len() {
-        most[k] = most_of(extents[k], least[k]);
+    // The lines 3, 4 and 13, of a job that passes 1 and 2.
+    pub fn lists_checked(self) -> Result<PassedJob<'a>, Refusal>
+        requires { (2 ≤ self.d) × (self.d ≤ 5) × (1 ≤ self.p) × (self.p ≤ 4096) }
+        ensures { told_by passed_job result ≡ lists_answer (asked self.entry) }
+    {
+        self.lengths_checked()?;
+        self.extents_checked()?;
+        self.least_checked()?;
+        Ok(PassedJob { job: self })
     }
-    most
-}
 
-// The same by the list given: where none is given, the extents are the most slabs.
-fn most_slabs(extents: &[u32], given: &[u32]) -> [u32; 5]
-    requires { (length extents.now ≤ 5) × (Thick extents.now (least_of (length extents.now) given.now)) }
-    ensures { result ≡ five (most_of extents.now (least_of (length extents.now) given.now)) }
-{
-    if given.len() == 0 {
-        return padded(extents);
-    }
-    quotients(extents, given)
-}
-
-// A thickness of 1 in each of d dimensions.
-fn ones(d: usize) -> [u32; 5]
-    requires { d ≤ 5 }
-    ensures { result ≡ five (replicate d 1) }
-{
-    let mut places: [u32; 5] = [0; 5];
-    for k in 0..d {
-        places[k] = 1;
-    }
-    places
-}
-
-// The least thicknesses of d dimensions: those given, or ones where none is given.
-fn thicknesses(d: usize, given: &[u32]) -> [u32; 5]
-    requires { (d ≤ 5) × (length given.now ≤ 5) }
-    ensures { result ≡ five (least_of d given.now) }
-{
-    if given.len() == 0 {
-        return ones(d);
-    }
-    padded(given)
-}
-
-// The plan with the cuts chosen.
-fn plan_with(
-    p: u32,
-    extents: &[u32],
-    weights: &[u32],
-    given: &[u32],
-    cuts: [u32; 5],
-    cost: u64,
-) -> Plan
-    requires le_p { (1 ≤ p) × (p ≤ 4096) × (length extents.now ≤ 5) × (length weights.now ≤ 5) × (length given.now ≤ 5) }
-    requires cuts_value { (cuts ≡ five (take (length extents.now) cuts)) × (cost ≡ cost_of weights.now (take (length extents.now) cuts)) }
-    ensures { result ≡ plan_of (layout_with (job_with p (length extents.now) extents.now weights.now given.now) (take (length extents.now) cuts)) }
-{
-    let d = extents.len();
-    let kept_extents = padded(extents);
-    let kept_weights = padded(weights);
-    let kept_least = thicknesses(d, given);
-    let moduli = moduli_of(p, cuts, d);
-    let matrix = matrix_of(p, cuts, moduli, d);
-    Plan {
-        d: d,
-        p: p,
-        extents: kept_extents,
-        weights: kept_weights,
-        cuts: cuts,
-        cost: cost,
-        moduli: moduli,
-        matrix: matrix,
-        kind: 0,
-        least: kept_least,
+    // The job, if it passes its checks.
+    pub fn checked(self) -> Result<PassedJob<'a>, Refusal>
+        ensures { told_by passed_job result ≡ job_answer (asked self.entry) }
+    {
+        self.sizes_checked()?;
+        self.lists_checked()
     }
 }
 
-// The cuts chosen for a job that passes the lines 1 to 4 of the table and 13.
-pub fn cuts_of(p: u32, extents: &[u32], weights: &[u32], given: &[u32]) -> Found
-    requires { (Asked p extents.now weights.now) × (Thick extents.now (least_of (length extents.now) given.now)) }
-    ensures { Chosen p (most_of extents.now (least_of (length extents.now) given.now)) weights.now result.ok result.cost result.cuts }
-{
-    let d = extents.len();
-    let most = most_slabs(extents, given);
-    cheapest_cuts(p, &most[0..d], weights)
-}
+impl<'a> PassedJob<'a> {
+    // The least thicknesses: those given, or ones where none is given.
+    pub fn thicknesses(self) -> [u32; 5]
+        ensures { result ≡ five (passed_job self.entry).least }
+    {
+        if self.job.least.is_empty() {
+            let ones: [u32; 5] = [1; 5];
+            return padded(&ones[..self.job.d]);
+        }
+        padded(self.job.least)
+    }
 
-// The answer to such a job.
-fn answer(p: u32, extents: &[u32], weights: &[u32], given: &[u32]) -> Planned
-    requires { (Asked p extents.now weights.now) × (Thick extents.now (least_of (length extents.now) given.now)) }
-    ensures { result ≡ planned_of (plan_with (job_with p (length extents.now) extents.now weights.now given.now) (cheapest p extents.now (least_of (length extents.now) given.now) weights.now)) }
-{
-    let found = cuts_of(p, extents, weights, given);
-    if !found.ok {
-        return refused(5, 0);
+    // The most slabs of each dimension: its extent divided by its least thickness, rounded down. Where none is given, the extents are the most slabs.
+    fn most_slabs(self) -> [u32; 5]
+        ensures { result ≡ five (most_of (passed_job self.entry).extents (passed_job self.entry).least) }
+    {
+        let mut most = padded(self.job.extents);
+        // Each by its place: of what a loop over `iter_mut().zip(..)` writes, a proof knows the length alone.
+        for (k, least) in self.job.least.iter().enumerate() {
+            most[k] /= *least;
+        }
+        most
     }
-    let cuts = found.cuts;
-    Planned {
-        number: 0,
-        place: 0,
-        plan: plan_with(p, extents, weights, given, cuts, found.cost),
-    }
-}
 
-// The first of the lines 1 to 4 of the table and 13 that turns a job down; zeros where all pass.
-pub fn turned_down(p: u32, d: usize, extents: &[u32], weights: &[u32], least: &[u32]) -> Turned
-    ensures { result ≡ first_fails (job_checks (job_with p d extents.now weights.now least.now)) }
-{
-    if (d < 2) | (5 < d) {
-        return Turned {
-            number: 1,
-            place: 0,
-        };
+    // The cuts chosen.
+    pub fn cuts_of(self) -> Option<Found>
+        ensures { result ≡ found_of self.entry.job.weights.now (cheapest_for (passed_job self.entry)) }
+    {
+        let most = self.most_slabs();
+        cheapest_cuts(self.job.p, &most[..self.job.d], self.job.weights)
     }
-    if (p < 1) | (4096 < p) {
-        return Turned {
-            number: 2,
-            place: 0,
-        };
-    }
-    if (extents.len() != d) | (weights.len() != d) | ((least.len() != 0) & (least.len() != d)) {
-        return Turned {
-            number: 3,
-            place: 0,
-        };
-    }
-    let outside = first_outside(extents);
-    if outside != 0 {
-        return Turned {
-            number: 4,
-            place: outside,
-        };
-    }
-    let zero = first_zero(least);
-    if zero != 0 {
-        return Turned {
-            number: 13,
-            place: zero,
-        };
-    }
-    Turned {
-        number: 0,
-        place: 0,
+
+    // The plan with the cuts chosen.
+    fn plan(self) -> Result<Plan, Refusal>
+        ensures { told result ≡ planned_answer (plan_with (passed_job self.entry) (cheapest_for (passed_job self.entry))) }
+    {
+        let Found { cost, cuts } = self.cuts_of().ok_or(Refusal::NoCuts)?;
+        let job = self.job;
+        let moduli = moduli_of(job.p, &cuts[..job.d]);
+        let matrix = matrix_of(job.p, &cuts[..job.d], &moduli);
+        Ok(Plan {
+            d: job.d,
+            p: job.p,
+            extents: padded(job.extents),
+            weights: padded(job.weights),
+            cuts,
+            cost,
+            moduli,
+            matrix,
+            kind: 0,
+            least: self.thicknesses(),
+        })
     }
 }
 
-// The planner's answer to a job; an empty list of least thicknesses stands for 1 in every dimension.
-pub fn plan_job(p: u32, d: usize, extents: &[u32], weights: &[u32], least: &[u32]) -> Planned
-    ensures { result ≡ planned_of (plan_answer (job_with p d extents.now weights.now least.now)) }
+// The planner's answer to a job.
+pub fn plan_job(job: Job) -> Result<Plan, Refusal>
+    ensures { told result ≡ planned_answer (plan_answer (asked job.entry)) }
 {
-    let turned = turned_down(p, d, extents, weights, least);
-    if turned.number != 0 {
-        return refused(turned.number, turned.place);
-    }
-    answer(p, extents, weights, least)
+    let passed = job.checked()?;
+    passed.plan()
 }

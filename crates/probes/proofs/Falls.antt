@@ -3,49 +3,51 @@ use mathlib.Core.Path.{◌≡◌, refl, ap, ◌∙◌}
 use mathlib.Core.Bool.{Bool, true, false, cond, ◌&&◌}
 use mathlib.Core.List.{List, [], ◌∷◌}
 use mathlib.Core.Logic.{◌↔◌}
-use Prim.Native.Nat.{ℕ, zero, suc, ◌+◌, ◌≤◌, ◌<◌}
+use Prim.Native.Nat.{ℕ, zero, suc, ◌+◌, ◌-◌, ◌≤◌, ◌<◌}
 use native.Mathlib.Decide.{dec_le}
 use native.Mathlib.Omega.{arith}
 use borrow.Author.Tests.{ltb-true, ltb-false, lt-ltb, le-ltb, le-leb, lt-leb, ne_eqb}
 use lib.Dec.{ltb, leb, eqb}
-use lib.ListN.{length, get_or, drop, drop_of_length-le}
-use lib.Seq.{drop-cons}
-use Rattle.probes.specs.Probes.{first_fall_from, first_fall}
+use lib.ListN.{length, get_or, take, drop, length-drop}
+use lib.Seq.{get_or-drop}
+use Rattle.std.specs.Prelude.{None, Some}
+use Rattle.std.specs.List.{AllWithin, HoldsAt, zip}
+use Rattle.std.proofs.lemmas.Slice.Zip.{length-zip, get_or-zip}
+use Rattle.probes.specs.Probes.{first_fall_from, first_fall, fall_in}
 use Rattle.probes.specs.SingleQuestions.{FallsFirst}
 
 -- ---- looked for from the front
 
-pub fall_start : (elements : List ℕ) → first_fall_from 2 (get_or elements 0 0) (drop 1 elements) ≡ first_fall elements
-unfolding first_fall_from first_fall
-fall_start [] = refl
-fall_start (x ∷ xs) = refl
-
-module _ (elements : List ℕ) (k before i : ℕ) where
-  pub fall_here : i < length elements → get_or elements i 0 < before → first_fall_from k before (drop i elements) ≡ k
-  unfolding first_fall_from
-  fall_here l falls = rw (drop-cons elements i 0 l, lt-ltb _ _ falls)
-
-  pub fall_later : i < length elements → before ≤ get_or elements i 0
-      → first_fall_from k before (drop i elements) ≡ first_fall_from (suc k) (get_or elements i 0) (drop (suc i) elements)
-  unfolding first_fall_from
-  fall_later l rises = rw (drop-cons elements i 0 l, le-ltb _ _ rises)
-
-  pub fall_none : length elements ≤ i → first_fall_from k before (drop i elements) ≡ 0
-  unfolding first_fall_from
-  fall_none l = ap (first_fall_from k before) (drop_of_length-le elements {i = i} l)
-
--- whether there is none, from the front
-pub rises_next : (elements : List ℕ) (before i : ℕ) → i < length elements
-    → eqb (first_fall_from (suc i) before (drop i elements)) 0
-    ≡ (leb before (get_or elements i 0) && eqb (first_fall_from (suc (suc i)) (get_or elements i 0) (drop (suc i) elements)) 0)
-rises_next elements before i l = go (dec_le before (get_or elements i 0))
+-- whether there is one does not rest on the place from which is counted
+none_from : (j k before : ℕ) (xs : List ℕ) → eqb (first_fall_from (suc j) before xs) 0 ≡ eqb (first_fall_from (suc k) before xs) 0
+unfolding first_fall_from
+none_from j k before [] = refl
+none_from j k before (x ∷ xs) = go (ltb x before) (none_from (suc j) (suc k) x xs)
   where
-    go : Dec (before ≤ get_or elements i 0) → eqb (first_fall_from (suc i) before (drop i elements)) 0
-        ≡ (leb before (get_or elements i 0) && eqb (first_fall_from (suc (suc i)) (get_or elements i 0) (drop (suc i) elements)) 0)
-    go (yes rises) = rw (le-leb _ _ rises, fall_later elements (suc i) before i l rises) refl
+    go : (t : Bool) → eqb (first_fall_from (suc (suc j)) x xs) 0 ≡ eqb (first_fall_from (suc (suc k)) x xs) 0
+        → eqb (cond t (suc j) (first_fall_from (suc (suc j)) x xs)) 0 ≡ eqb (cond t (suc k) (first_fall_from (suc (suc k)) x xs)) 0
+    go true later = rw (ne_eqb (suc j) 0 (λ e. absurd (omega arith)), ne_eqb (suc k) 0 (λ e. absurd (omega arith))) refl
+    go false later = later
+
+-- whether there is none: the first two numbers, and then the others
+pub rises_pair : (xs : List ℕ) → 2 ≤ length xs
+    → (leb (get_or (take 2 xs) 0 0) (get_or (take 2 xs) 1 0) && eqb (first_fall (drop 1 xs)) 0) ≡ eqb (first_fall xs) 0
+unfolding first_fall first_fall_from
+rises_pair [] l = absurd (omega arith)
+rises_pair (x ∷ []) l = absurd (omega arith)
+rises_pair (x ∷ y ∷ xs) l = go (dec_le x y)
+  where
+    go : Dec (x ≤ y) → (leb x y && eqb (first_fall_from 2 y xs) 0) ≡ eqb (cond (ltb y x) 2 (first_fall_from 3 y xs)) 0
+    go (yes rises) = rw (le-leb x y rises, le-ltb y x rises) (none_from 1 2 y xs)
     go (no falls) =
-        let smaller : get_or elements i 0 < before = omega arith in
-        rw (lt-leb _ _ smaller, fall_here elements (suc i) before i l smaller) (ne_eqb (suc i) 0 (λ e. absurd (omega arith)))
+        let smaller : y < x = omega arith in
+        rw (lt-leb x y smaller, lt-ltb y x smaller, ne_eqb 2 0 (λ e. absurd (omega arith))) refl
+
+pub no_pair : (xs : List ℕ) → length xs < 2 → first_fall xs ≡ 0
+unfolding first_fall first_fall_from
+no_pair [] l = refl
+no_pair (x ∷ []) l = refl
+no_pair (x ∷ y ∷ xs) l = absurd (omega arith)
 
 -- ---- what the place says
 
@@ -129,3 +131,36 @@ pub no_fall_iff : (elements : List ℕ)
 unfolding first_fall
 no_fall_iff [] = ((λ e i l. absurd (omega arith)), λ h. refl)
 no_fall_iff (x ∷ xs) = (rises_from 1 x xs, from_rises 2 x xs)
+
+-- ---- what a walk along the elements and those behind them finds
+
+module _ (xs : List ℕ) where
+  abbrev pub pairs : List (ℕ × ℕ)
+  pairs = zip xs (drop 1 xs)
+
+  many : length pairs ≡ length xs - 1
+  many = omega (arith, length-zip xs (drop 1 xs), length-drop 1 xs)
+
+  pair-at : (i : ℕ) → suc i < length xs → get_or pairs i (0, 0) ≡ (get_or xs i 0, get_or xs (suc i) 0)
+  pair-at i l =
+      let next : 1 + i ≡ suc i = omega arith in
+      get_or-zip xs (drop 1 xs) i (0, 0) (omega (arith, l)) (omega (arith, l, length-drop 1 xs))
+      ∙ ap (λ (y : ℕ). (get_or xs i 0, y)) (get_or-drop 1 xs i 0 ∙ ap (λ (k : ℕ). get_or xs k 0) next)
+
+  pub found_none : AllWithin (λ (p : ℕ × ℕ). p.0 ≤ p.1) pairs 0 (length pairs) → None ≡ fall_in xs
+  found_none all =
+      let none : first_fall xs ≡ 0
+      = (no_fall_iff xs).1 (λ i l. rw (pair-at i l) at (all i (0, 0) (omega arith) (omega (arith, many, l)))) in
+      rw none refl
+
+  pub found-at : (i : ℕ) → (i < length pairs) × HoldsAt (λ (p : ℕ × ℕ). p.1 < p.0) pairs i × AllWithin (λ (p : ℕ × ℕ). p.0 ≤ p.1) pairs 0 i
+      → Some (i + 2) ≡ fall_in xs
+  found-at i h =
+      let inside : suc i < length xs = omega (arith, many, h.0) in
+      let place : first_fall xs ≡ i + 2
+      = (first_fall_iff xs i).1 (record {
+        inside = inside;
+        falls = rw (pair-at i inside) at (h.1 (0, 0));
+        rises = λ j l. rw (pair-at j (omega (arith, l, inside))) at (h.2 j (0, 0) (omega arith) l);
+      }) in
+      rw (place, ne_eqb (i + 2) 0 (λ e. absurd (omega (arith, e)))) refl

@@ -1,5 +1,5 @@
 -- The second list while it is filled from the front.
-use mathlib.Core.Path.{◌≡◌, refl, sym, ap, ◌∙◌}
+use mathlib.Core.Path.{◌≡◌, sym, ap, ◌∙◌}
 use mathlib.Core.List.{List, [], ◌∷◌, ◌++◌, map, map-append}
 use Prim.Native.Nat.{ℕ, suc, ◌+◌, ◌<◌}
 use native.Mathlib.Numerals.{add-one}
@@ -13,9 +13,6 @@ module _ (n b : ℕ) (elements lent : List ℕ) where
   -- the slabs of the first i elements stand
   abbrev pub filled : ℕ → List ℕ
   filled i = map (slab_of n b) (take i elements) ++ drop i lent
-
-  pub filled_none : lent ≡ filled 0
-  filled_none = refl
 
   pub filled_next : (i slab : ℕ) → i < length elements → i < length lent → slab ≡ slab_of n b (get_or elements i 0) → set (filled i) i slab ≡ filled (i + 1)
   filled_next i slab l m e =

@@ -1,55 +1,67 @@
--- How the call comes out: a law for each line of the table, and one for the answer.
-use mathlib.Core.Path.{◌≡◌, refl}
-use mathlib.Core.Bool.{true, false}
-use mathlib.Core.List.{List}
-use Prim.Native.Nat.{ℕ, ◌≤◌, ◌<◌}
-use borrow.Author.Tests.{le-leb, lt-leb}
-use lib.Dec.{eqb}
+-- How the call comes out, once the plan has the dimension: its checks, and what it answers.
+use mathlib.Core.Path.{◌≡◌, refl, ap}
+use mathlib.Core.Bool.{Bool, true, false, cond}
+use mathlib.Core.List.{List, [], ◌∷◌}
+use Prim.Native.Nat.{ℕ, suc}
+use native.Mathlib.Omega.{arith}
+use borrow.Author.Tests.{eqb-true}
+use lib.Dec.{leb, eqb}
 use lib.ListN.{length}
-use Rattle.multipartition.specs.Plans.{Layout, between, in_shape}
-use Rattle.multipartition.specs.Questions.{extent_of, cut_of}
-use Rattle.probes.specs.declared.Probed.{Probed}
-use Rattle.probes.specs.declared.Probed.TheVariants as P
-use Rattle.probes.specs.Probes.{all_within, first_fall, slabs_into, probes_answer}
-use Rattle.probes.specs.Told.{Answers}
+use Rattle.std.specs.Prelude.{Option, None, Some}
+use Rattle.multipartition.specs.Answers.{answered, refused, Check, checked}
+use Rattle.multipartition.specs.Questions.{extent_of, cut_of, range_check, length_check}
+use Rattle.layout.specs.declared.Plan.{Plan}
+use Rattle.layout.specs.Plans.{layout_of}
+use Rattle.layout.specs.Checked.{axis_checks}
+use Rattle.refusals.proofs.Laws.{turned_back-on, passed-on}
+use Rattle.tiles.specs.Answers.{slabs_answer}
+use Rattle.probes.specs.Probes.{all_within, first_fall, fall_in, rising_check, slabs_into, probes_answer}
 
--- the plan is in shape and has the dimension, which has n elements and b slabs
-pub record Along (plan : Layout) (k n b : ℕ) : Type 0 where
-  pub shape : in_shape plan ≡ true
-  pub dimension : between 1 plan.d k ≡ true
-  pub extent_is : extent_of plan k ≡ n
-  pub cut_is : cut_of plan k ≡ b
+-- the checks of a dimension of n elements
+abbrev pub line_checks : ℕ → List ℕ → List ℕ → List Check
+line_checks n elements lent =
+    range_check (all_within n elements) ∷ length_check (leb (length elements) (length lent)) ∷ rising_check elements ∷ []
 
-module _ (plan : Layout) (k : ℕ) (elements lent : List ℕ) where
-  -- the call comes out so
-  abbrev Outcome : Probed → List ℕ → Type 0
-  Outcome probed slabs = Answers (probes_answer plan k elements lent) probed lent slabs
+module _ (plan : Plan) (k : ℕ) (elements lent : List ℕ) where
+  abbrev n : ℕ
+  n = extent_of (layout_of plan) k
 
-  pub refused-6 : in_shape plan ≡ false → Outcome (P.Refused 6 0) lent
+  abbrev b : ℕ
+  b = cut_of (layout_of plan) k
+
+  pub turned_back : {number place : ℕ} → refused number place ≡ slabs_answer plan k → refused number place ≡ probes_answer (layout_of plan) k elements lent
   unfolding probes_answer
-  refused-6 e = rw e (record { told = refl; held = refl })
+  turned_back e = turned_back-on (axis_checks plan k) (line_checks n elements lent) (n, b) (answered (slabs_into n b elements lent)) e
 
-  pub refused_7 : in_shape plan ≡ true → between 1 plan.d k ≡ false → Outcome (P.Refused 7 0) lent
+  pub passed : (extent cut : ℕ) → answered (extent, cut) ≡ slabs_answer plan k
+      → probes_answer (layout_of plan) k elements lent ≡ checked (line_checks extent elements lent) (answered (slabs_into extent cut elements lent))
   unfolding probes_answer
-  refused_7 shape e = rw (shape, e) (record { told = refl; held = refl })
+  passed extent cut e =
+      let h = passed-on (axis_checks plan k) (line_checks n elements lent) (n, b) (extent, cut) (answered (slabs_into n b elements lent)) e in
+      let extent_is : extent ≡ n = ap (λ (ends : ℕ × ℕ). ends.0) h.0 in
+      let cut_is : cut ≡ b = ap (λ (ends : ℕ × ℕ). ends.1) h.0 in
+      rw (extent_is, cut_is) h.1
 
-  module _ (n b : ℕ) (along : Along plan k n b) where
-    pub refused_8 : all_within n elements ≡ false → Outcome (P.Refused 8 0) lent
-    unfolding probes_answer
-    refused_8 e = rw (along.shape, along.dimension, along.extent_is, e) (record { told = refl; held = refl })
+-- ---- what the look for a fall says
 
-    module _ (within : all_within n elements ≡ true) where
-      pub refused_9 : length lent < length elements → Outcome (P.Refused 9 0) lent
-      unfolding probes_answer
-      refused_9 short = rw (along.shape, along.dimension, along.extent_is, within, lt-leb _ _ short) (record { told = refl; held = refl })
+place_or : Option ℕ → ℕ
+place_or None = 0
+place_or (Some place) = suc place
 
-      module _ (long : length elements ≤ length lent) where
-        pub refused_14 : eqb (first_fall elements) 0 ≡ false → (place : ℕ) → place ≡ first_fall elements → Outcome (P.Refused 14 place) lent
-        unfolding probes_answer
-        refused_14 falls place e =
-            rw (along.shape, along.dimension, along.extent_is, within, le-leb _ _ long, falls, ← e) (record { told = refl; held = refl })
+module _ (elements : List ℕ) where
+  pub fall_none : None ≡ fall_in elements → first_fall elements ≡ 0
+  unfolding place_or
+  fall_none = go (eqb (first_fall elements) 0) refl
+    where
+      go : (t : Bool) → eqb (first_fall elements) 0 ≡ t → None ≡ cond t None (Some (first_fall elements)) → first_fall elements ≡ 0
+      go true f e = eqb-true _ _ f
+      go false f e = let clash : 0 ≡ suc (first_fall elements) = ap place_or e in absurd (omega (arith, clash))
 
-        pub done : eqb (first_fall elements) 0 ≡ true → (slabs : List ℕ) → slabs ≡ slabs_into n b elements lent → Outcome P.Done slabs
-        unfolding probes_answer
-        done rises slabs e =
-            rw (along.shape, along.dimension, along.extent_is, along.cut_is, within, le-leb _ _ long, rises, e) (record { told = refl; held = refl })
+  pub fall_some : (place : ℕ) → Some place ≡ fall_in elements → (first_fall elements ≡ place) × (eqb (first_fall elements) 0 ≡ false)
+  unfolding place_or
+  fall_some place = go (eqb (first_fall elements) 0) refl
+    where
+      go : (t : Bool) → eqb (first_fall elements) 0 ≡ t → Some place ≡ cond t None (Some (first_fall elements))
+          → (first_fall elements ≡ place) × (eqb (first_fall elements) 0 ≡ false)
+      go true f e = let clash : suc place ≡ 0 = ap place_or e in absurd (omega (arith, clash))
+      go false f e = let same : suc place ≡ suc (first_fall elements) = ap place_or e in (omega (arith, same), f)

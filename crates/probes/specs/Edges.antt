@@ -1,20 +1,11 @@
 -- What the pass carries, "moving along the slab edges once" (document 02, request h). An extent of n elements is cut into b slabs.
-use Rattle.std.specs.Prelude.{◌≡◌, List, ℕ, suc, ◌/◌, ◌%◌, ◌≤◌, ◌<◌, length, get_or}
+use Rattle.std.specs.Prelude.{◌≡◌, List, ℕ, suc, ◌≤◌, ◌<◌, length, get_or}
 use Rattle.multipartition.specs.Slabs.{slab_end}
-use Rattle.probes.specs.declared.Edge.{Edge}
-
--- slabs have `thin` elements, and the first `more` of them one more
-pub record Split (n b thin more : ℕ) : Type 0 where
-  pub high : n ≤ 1000000
-  pub some : 1 ≤ b
-  pub fits : b ≤ n
-  pub thin_is : thin ≡ n / b
-  pub more_is : more ≡ n % b
 
 -- the edge behind one of the slabs
-pub record Behind (n b : ℕ) (edge : Edge) : Type 0 where
-  pub below : edge.slab < b
-  pub after_is : edge.after ≡ slab_end n b edge.slab
+pub record Behind (n b slab after : ℕ) : Type 0 where
+  pub below : slab < b
+  pub after_is : after ≡ slab_end n b slab
 
 -- "a rising list of element numbers of one dimension, equal neighbours allowed": all among n, and none smaller than the one before
 pub record RisingWithin (n : ℕ) (elements : List ℕ) : Type 0 where

@@ -1,4 +1,3 @@
 pub mod Probes
 pub mod Edges
 pub mod SingleQuestions
-pub mod Told

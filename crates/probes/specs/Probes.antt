@@ -1,5 +1,5 @@
 -- Slabs of a whole probe line (document 02, request h). Dimensions are numbered from 1.
-use Rattle.std.specs.Prelude.{Bool, cond, not, List, [], ◌∷◌, ◌++◌, map, ℕ, suc, ltb, leb, eqb, length, get_or, drop}
+use Rattle.std.specs.Prelude.{Bool, cond, not, List, [], ◌∷◌, ◌++◌, map, ℕ, suc, ltb, leb, eqb, length, get_or, drop, Option, None, Some}
 use Rattle.multipartition.specs.Answers.{Answer, answered, Check, checked}
 use Rattle.multipartition.specs.Lists.{all_below}
 use Rattle.multipartition.specs.Plans.{Layout}
@@ -20,6 +20,10 @@ first_fall_from k before (x ∷ xs) = cond (ltb x before) k (first_fall_from (su
 unfoldable pub first_fall : List ℕ → ℕ
 first_fall [] = 0
 first_fall (x ∷ xs) = first_fall_from 2 x xs
+
+-- the same as an option
+abbrev pub fall_in : List ℕ → Option ℕ
+fall_in elements = cond (eqb (first_fall elements) 0) None (Some (first_fall elements))
 
 -- "14, an element smaller than the one before, with the place of the first such"
 abbrev pub rising_check : List ℕ → Check

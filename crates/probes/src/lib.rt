@@ -5,157 +5,123 @@
 ghost use Rattle.std.specs.Prelude.{◌≡◌, ◌+◌, ◌<◌, ◌≤◌, eqb, length};
 ghost use Rattle.multipartition.specs.Slabs.{slab_start, slab_of};
 ghost use Rattle.layout.specs.Plans.{layout_of};
-ghost use Rattle.layout.specs.Shaped.{Shaped};
-ghost use Rattle.probes.specs.Probes.{all_within, first_fall, slabs_into, probes_answer};
-ghost use Rattle.probes.specs.Edges.{Split, Behind, RisingWithin};
-ghost use Rattle.probes.specs.Told.{Answers};
+ghost use Rattle.refusals.specs.Told.{Answers};
+ghost use Rattle.probes.specs.Probes.{all_within, first_fall, fall_in, slabs_into, probes_answer};
+ghost use Rattle.probes.specs.Edges.{RisingWithin};
 
+use crate::edge::Edge;
 use layout::Plan;
-use tiles::dimensions::has_dimension;
-use tiles::slabs::thickness;
+use refusals::Refusal;
+use tiles::slabs::Slabs;
 
-#[derive(Clone, Copy)]
-pub enum Probed {
-    // the slabs stand at the front of the second list
-    Done,
-    // the place of refusal 14 is that of the element, counted from 1; else it is 0
-    Refused { number: u32, place: usize },
-}
+mod edge; // edge.rt: the edge behind a slab
 
-// The edge behind a slab: the element after its last.
-#[derive(Clone, Copy)]
-struct Edge {
-    slab: u32,
-    after: u32,
-}
-
-// Whether every element is one of n.
+// Whether every element is one of n. It goes on to the end also where one is not: `all` leaves early, and took five to ten times as long.
 fn all_within(elements: &[u32], n: u32) -> bool
     ensures { result ≡ all_within n elements.now }
 {
     let mut ok = true;
-    for i in 0..elements.len() {
-        ok = ok & (elements[i] < n);
+    for element in elements {
+        ok &= *element < n;
     }
     ok
 }
 
-// Whether no element is smaller than the one before. It goes on to the end also where one is: a pass that does not leave early is quicker, and the
-// place is looked for in a refusal only.
+// Whether no element is smaller than the one before. It goes on to the end likewise: `is_sorted` leaves early, and took ten times as long.
 fn rises(elements: &[u32]) -> bool
     ensures { result ≡ eqb (first_fall elements.now) 0 }
 {
     let mut ok = true;
-    let mut i = 1;
-    while i < elements.len() {
-        ok = ok & (elements[i - 1] <= elements[i]);
-        i = i + 1;
+    for pair in elements.windows(2) {
+        ok &= pair[0] <= pair[1];
     }
     ok
 }
 
-// The place of the first element that is smaller than the one before, counted from 1; 0 if there is none.
-fn first_fall(elements: &[u32]) -> usize
-    ensures { result ≡ first_fall elements.now }
+// The place of the first element that is smaller than the one before, counted from 1. It is looked for only where there is one.
+fn first_fall(elements: &[u32]) -> Option<usize>
+    ensures { result ≡ fall_in elements.now }
 {
-    let mut i = 1;
-    while i < elements.len() {
-        if elements[i] < elements[i - 1] {
-            return i + 1;
+    if rises(elements) {
+        return None;
+    }
+    let before = elements
+        .iter()
+        .zip(elements.iter().skip(1))
+        .position(|(before, element)| element < before)?;
+    Some(before + 2)
+}
+
+impl Edge {
+    // The edge behind slab 0.
+    fn first(slabs: Slabs) -> Edge
+        ensures { (result.slabs ≡ slabs) × (result.slab ≡ 0) }
+    {
+        Edge {
+            slabs,
+            slab: 0,
+            after: slabs.thickness(0),
         }
-        i = i + 1;
     }
-    0
-}
 
-// The edge behind the next slab.
-fn next_edge(n: u32, b: u32, thin: u32, more: u32, edge: Edge) -> Edge
-    requires { (Split n b thin more) × (Behind n b edge) × (edge.slab + 1 < b) }
-    ensures { (Behind n b result) × (result.slab ≡ edge.slab + 1) }
-{
-    let slab = edge.slab + 1;
-    let mut after = edge.after + thin;
-    if slab < more {
-        after = after + 1;
+    // The edge behind the next slab.
+    fn next(self) -> Edge
+        requires { self.slab + 1 < self.slabs.cut }
+        ensures { (result.slabs ≡ self.slabs) × (result.slab ≡ self.slab + 1) }
+    {
+        let slab = self.slab + 1;
+        Edge {
+            slabs: self.slabs,
+            slab,
+            after: self.after + self.slabs.thickness(slab),
+        }
     }
-    Edge {
-        slab: slab,
-        after: after,
-    }
-}
 
-// On from an edge to the one behind the slab of an element.
-fn edge_past(n: u32, b: u32, thin: u32, more: u32, from: Edge, element: u32) -> Edge
-    requires { (Split n b thin more) × (Behind n b from) × (slab_start n b from.slab ≤ element) × (element < n) }
-    ensures { (Behind n b result) × (result.slab ≡ slab_of n b element) }
-{
-    let mut edge = from;
-    while edge.after <= element {
-        edge = next_edge(n, b, thin, more, edge);
+    // On to the edge behind the slab of an element.
+    fn past(self, element: u32) -> Edge
+        requires { (slab_start self.slabs.extent self.slabs.cut self.slab ≤ element) × (element < self.slabs.extent) }
+        ensures { (result.slabs ≡ self.slabs) × (result.slab ≡ slab_of self.slabs.extent self.slabs.cut element) }
+    {
+        let mut edge = self;
+        while edge.after <= element {
+            edge = edge.next();
+        }
+        edge
     }
-    edge
 }
 
 // Writes the slab of each element: one pass, in which the edge moves on and never back.
-fn fill(n: u32, b: u32, elements: &[u32], slabs: &mut [u32])
-    requires { (n ≤ 1000000) × (1 ≤ b) × (b ≤ n) × (RisingWithin n elements.now) × (length elements.now ≤ length slabs.old) }
-    ensures { slabs.new ≡ slabs_into n b elements.now slabs.old }
+fn fill(along: Slabs, elements: &[u32], slabs: &mut [u32])
+    requires { (RisingWithin along.extent elements.now) × (length elements.now ≤ length slabs.old) }
+    ensures { slabs.new ≡ slabs_into along.extent along.cut elements.now slabs.old }
 {
-    let thin = n / b;
-    let more = n % b;
-    let mut edge = Edge {
-        slab: 0,
-        after: thickness(n, b, 0),
-    };
-    for i in 0..elements.len() {
-        edge = edge_past(n, b, thin, more, edge, elements[i]);
+    let mut edge = Edge::first(along);
+    // By place: of a list that is written through `iter_mut().zip(..)` a proof knows only the length.
+    for (i, element) in elements.iter().enumerate() {
+        edge = edge.past(*element);
         slabs[i] = edge.slab;
     }
 }
 
-// The slabs of elements along place k, or the refusals 8, 9 and 14. All checks come before the first write.
-fn slabs_along(plan: Plan, k: usize, elements: &[u32], slabs: &mut [u32]) -> Probed
-    requires { (Shaped plan) × (k < plan.d) }
-    ensures { Answers (probes_answer (layout_of plan) (k + 1) elements.now slabs.old) result slabs.old slabs.new }
-{
-    let n = plan.extents[k];
-    if !all_within(elements, n) {
-        return Probed::Refused {
-            number: 8,
-            place: 0,
-        };
-    }
-    if slabs.len() < elements.len() {
-        return Probed::Refused {
-            number: 9,
-            place: 0,
-        };
-    }
-    if !rises(elements) {
-        return Probed::Refused {
-            number: 14,
-            place: first_fall(elements),
-        };
-    }
-    fill(n, plan.cuts[k], elements, slabs);
-    Probed::Done
-}
-
-// The slab of each element of a rising list, at the front of a second list.
-pub fn slabs_of(plan: Plan, dimension: usize, elements: &[u32], slabs: &mut [u32]) -> Probed
+// The slab of each element of a rising list, at the front of a second list. All checks come before the first write.
+pub fn slabs_of(
+    plan: Plan,
+    dimension: usize,
+    elements: &[u32],
+    slabs: &mut [u32],
+) -> Result<(), Refusal>
     ensures { Answers (probes_answer (layout_of plan) dimension elements.now slabs.old) result slabs.old slabs.new }
 {
-    if !layout::in_shape(plan) {
-        return Probed::Refused {
-            number: 6,
-            place: 0,
-        };
+    let along = Slabs::of(&plan, dimension)?;
+    if !all_within(elements, along.extent) {
+        return Err(Refusal::Range);
     }
-    if !has_dimension(plan, dimension) {
-        return Probed::Refused {
-            number: 7,
-            place: 0,
-        };
+    if slabs.len() < elements.len() {
+        return Err(Refusal::Room);
     }
-    slabs_along(plan, dimension - 1, elements, slabs)
+    if let Some(place) = first_fall(elements) {
+        return Err(Refusal::Falls(place));
+    }
+    fill(along, elements, slabs);
+    Ok(())
 }

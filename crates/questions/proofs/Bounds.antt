@@ -1,12 +1,13 @@
 -- The bounds of a plan in shape, and of a position inside its grid.
 use mathlib.Core.Path.{◌≡◌}
 use mathlib.Core.List.{List}
-use Prim.Native.Nat.{ℕ, zero, suc, ◌+◌, ◌*◌, ◌≤◌, ◌<◌}
-use native.Mathlib.Nat.{le_trans, mul-le-mul}
+use Prim.Native.Nat.{ℕ, zero, suc, ◌+◌, ◌*◌, ◌^◌, ◌≤◌, ◌<◌}
+use native.Mathlib.Nat.{le_refl, le_trans, mul-le-mul}
 use native.Mathlib.Numerals.{add-one}
 use native.Mathlib.Omega.{arith}
 use lib.ListN.{get_or, take, drop}
 use lib.Seq.{get_or-drop}
+use Rattle.std.specs.List.{zip, sum_by}
 use Rattle.numbers.specs.Products.{product}
 use Rattle.multipartition.specs.Owners.{times}
 use Rattle.layout.specs.declared.Plan.{Plan}
@@ -15,6 +16,7 @@ use Rattle.layout.specs.Positions.{InGrid}
 use Rattle.layout.proofs.Lists.{product_front, factor-le}
 use Rattle.layout.proofs.Owners.{times_none, times-add-one}
 use Rattle.questions.specs.Bounds.{Reduced, Small}
+use Rattle.questions.proofs.Rows.{times_as_sum}
 
 pub reduced_of_shaped : (plan : Plan) → Shaped plan → Reduced plan.d plan.moduli plan.matrix
 reduced_of_shaped plan s =
@@ -60,3 +62,14 @@ module _ (d i : ℕ) (matrix position : List ℕ) (r : Small d (drop (i * 5) mat
   times_high zero l = rw (times_none (drop (i * 5) matrix) position) (omega arith)
   times_high (suc j) l =
       rw (← add-one j, row-add-one i matrix position j) (omega (arith, times_high j (omega arith), term_high j (omega arith)))
+
+-- and their sum 32 bits
+pub row_fits : (d : ℕ) (moduli matrix position : List ℕ) → Reduced d moduli matrix → Small d position → (i : ℕ) → i < d
+    → sum_by (λ p. p.0 * p.1) (zip (take d (drop (i * 5) matrix)) position) < 2 ^ 32
+row_fits d moduli matrix position h p i l =
+    omega (
+      arith,
+      times_as_sum (take d (drop (i * 5) matrix)) position,
+      times_high d i matrix position (small_row d moduli matrix h i l) p d (le_refl d),
+      h.few,
+    )

@@ -1,4 +1,8 @@
 pub mod Bounds
-pub mod Owners
+pub mod Behind
+pub mod Inside
+pub mod Rows
+pub mod Fronts
 pub mod Neighbours
 pub mod Answers
+pub mod Lent

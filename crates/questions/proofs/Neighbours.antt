@@ -108,11 +108,6 @@ module _ (d : ℕ) (moduli matrix : List ℕ) (h : Reduced d moduli matrix) wher
   unfolding radix_at
   radix-suc i l = rw (moduli_from i l) (omega arith)
 
-  -- one modulus more
-  radix_less : (i : ℕ) → 0 < i → i ≤ d → radix_at d moduli (i - 1) ≡ radix_at d moduli i * get_or moduli (i - 1) 0
-  radix_less zero m l = absurd (omega arith)
-  radix_less (suc i) m l = let e : suc i - 1 ≡ i = omega arith in rw e (radix-suc i (omega arith))
-
   radix_high : (i : ℕ) → radix_at d moduli i ≤ 4096
   unfolding radix_at
   radix_high i = le_trans (product-drop-le (take d moduli) i (positive_back 0)) h.product_high
@@ -139,14 +134,6 @@ module _ (d : ℕ) (moduli matrix : List ℕ) (h : Reduced d moduli matrix) wher
         rw (moduli_from i l, rows_from_lem i l, next_owner-first (get_or moduli i 0) (drop (suc i) (take d moduli)) (get_or (rows_from d 0 d matrix) i []) (drop (suc i) (rows_from d 0 d matrix)) k up q, entry_at_lem d matrix i k l m)
         (omega arith)
 
-    -- one coordinate more
-    back_less : (i : ℕ) → 0 < i → i ≤ d → k < d
-        → neighbour_back d moduli matrix k up q (i - 1)
-        ≡ neighbour_back d moduli matrix k up q i
-        + turn up (get_or moduli (i - 1) 0) (q / radix_at d moduli i % get_or moduli (i - 1) 0) (entry_of matrix (i - 1) k) * radix_at d moduli i
-    back_less zero m l n = absurd (omega arith)
-    back_less (suc i) m l n = let e : suc i - 1 ≡ i = omega arith in rw e (back-suc i (omega arith) n)
-
 -- what the walk from the last dimension has before dimension i: the number and radix of the coordinates from i on, and what is left of q
 pub record Walked (d : ℕ) (moduli matrix : List ℕ) (k : ℕ) (up : Bool) (q i number radix left : ℕ) : Type 0 where
   pub number_is : number ≡ neighbour_back d moduli matrix k up q i
@@ -162,14 +149,16 @@ module _ (d : ℕ) (moduli matrix : List ℕ) (h : Reduced d moduli matrix) (k :
         left_is = rw (radix_last d moduli matrix h) (sym (div-one q));
       }
 
-  pub walk-next : (i number radix left digit : ℕ) → Walked d moduli matrix k up q i number radix left → 0 < i → i ≤ d → k < d
-      → digit ≡ turn up (get_or moduli (i - 1) 0) (left % get_or moduli (i - 1) 0) (entry_of matrix (i - 1) k)
-      → Walked d moduli matrix k up q (i - 1) (number + digit * radix) (radix * get_or moduli (i - 1) 0) (left / get_or moduli (i - 1) 0)
-  walk-next i number radix left digit w low high l e =
+  -- one coordinate more, of dimension i, whose modulus is m
+  pub walk-next : (n i m number radix left digit : ℕ) → Walked d moduli matrix k up q n number radix left → n ≡ i + 1 → i < d → m ≡ get_or moduli i 0 → k < d
+      → digit ≡ turn up m (left % m) (entry_of matrix i k) → Walked d moduli matrix k up q i (number + digit * radix) (radix * m) (left / m)
+  walk-next n i m number radix left digit w next l here within e =
+      let to : n ≡ suc i = omega arith in
+      let was : Walked d moduli matrix k up q (suc i) number radix left = rw to at w in
       record {
-        number_is = rw (back_less d moduli matrix h k up q i low high l, e, w.left_is, w.number_is, w.radix_is);
-        radix_is = rw (radix_less d moduli matrix h i low high, w.radix_is);
-        left_is = rw (radix_less d moduli matrix h i low high, w.left_is) (div-div-eq-div-mul q (radix_at d moduli i) (get_or moduli (i - 1) 0));
+        number_is = rw (back-suc d moduli matrix h k up q i l within, e, here, was.left_is, was.number_is, was.radix_is);
+        radix_is = rw (radix-suc d moduli matrix h i l, here, was.radix_is);
+        left_is = rw (radix-suc d moduli matrix h i l, here, was.left_is) (div-div-eq-div-mul q (radix_at d moduli (suc i)) (get_or moduli i 0));
       }
 
   pub walk_number_high : (i number radix left : ℕ) → Walked d moduli matrix k up q i number radix left → number < 4096

@@ -1,5 +1,5 @@
 -- What keeps the sums and products of the two questions within 32 bits. Places are counted from 0.
-use Rattle.std.specs.Prelude.{List, ◌≡◌, ℕ, ◌*◌, ◌≤◌, ◌<◌, length, get_or, take, drop}
+use Rattle.std.specs.Prelude.{List, ℕ, ◌≤◌, ◌<◌, length, get_or, take}
 use Rattle.numbers.specs.Products.{product}
 use Rattle.layout.specs.Shaped.{entry_of}
 
@@ -15,11 +15,3 @@ pub record Reduced (d : ℕ) (moduli matrix : List ℕ) : Type 0 where
 pub record Small (d : ℕ) (numbers : List ℕ) : Type 0 where
   pub few : d ≤ 5
   pub below : (k : ℕ) → k < d → get_or numbers k 0 < 4096
-
--- row i of a matrix and a position of d coordinates
-pub record RowBounds (d i : ℕ) (matrix position : List ℕ) : Type 0 where
-  pub row_high : i < 5
-  pub row_small : Small d (drop (i * 5) matrix)
-  pub position_small : Small d position
-  pub matrix_places : length matrix ≡ 25
-  pub coordinates : length position ≡ d

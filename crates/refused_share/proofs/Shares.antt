@@ -5,15 +5,16 @@ use mathlib.Core.Logic.{⊎_elim, ◌↔◌, ◌≢◌}
 use mathlib.Core.Bool.{Bool, true, false, not}
 use mathlib.Core.List.{List}
 use mathlib.Core.Option.{Option, none, some, some-injective}
-use Prim.Native.Nat.{ℕ, suc, ◌%◌, ◌≤◌, ◌<◌, ◌∣◌}
+use Prim.Native.Nat.{ℕ, ◌+◌, ◌-◌, ◌%◌, ◌≤◌, ◌<◌, ◌∣◌}
 use native.Mathlib.Nat.{le_of_dvd, pos_of_dvd_of_pos, dvd_of_mod-eq-zero, mod-eq-zero_of_dvd, dvd_trans, dvd_refl, eq-or-lt_of_le}
 use native.Mathlib.Decide.{dec_lt}
 use native.Mathlib.Omega.{arith}
 use borrow.Author.Tests.{eq-eqb, ne_eqb, eqb-true}
 use lib.Dec.{eqb}
-use lib.ListN.{length, get_or}
-use Rattle.numbers.specs.Divisors.{divisors_of, divisors_answer, Listed}
-use Rattle.numbers.proofs.Divisors.{dvd_of_entry, entry_pos, entry-le, entry_of-dvd, divisors-rising, length-divisors_of-le, divisors_answer_inside, listed_inside}
+use lib.ListN.{length, get_or, take}
+use lib.Seq.{length-take-le, get_or-take}
+use Rattle.numbers.specs.Divisors.{divisors_of, divisors_answer}
+use Rattle.numbers.proofs.Divisors.{dvd_of_entry, entry_pos, entry-le, entry_of-dvd, divisors-rising, divisors_answer_inside}
 use Rattle.multipartition.specs.Answers.{Answer, answered, refused}
 use Rattle.multipartition.specs.Plans.{Job, Layout}
 use Rattle.multipartition.specs.Jobs.{Passed, cheapest_for, plan_with, plan_answer}
@@ -21,7 +22,8 @@ use Rattle.multipartition.proofs.Answers.{answered_injective}
 use Rattle.multipartition.proofs.Jobs.{plan_of_passed, refused-five_iff, accepted_or-five, passed_of-five}
 use Rattle.multipartition.proofs.Searches.{first_such_passes, first_such_below, first_such-le, first_such_is}
 use Rattle.multipartition.proofs.Tests.{false-not-true, and_iff, by_cond}
-use Rattle.cuts.specs.Found.{is_chosen}
+use Rattle.std.specs.Option.{is_some}
+use Rattle.cuts.specs.Found.{found_of}
 use Rattle.refused_share.specs.Shares.{job_for, is_five, is_refused_divisor, smallest_refused, share_of, share_answer, Smallest}
 
 -- ---- refused with 5
@@ -37,11 +39,11 @@ five_iff job = (there (plan_answer job) refl, λ e. ap is_five e)
         ⊎_elim (λ h. let clash : ◌≡◌ {A = ℕ} 0 1 = cc in absurd (omega arith)) (λ h. h) (accepted_or-five job (passed_of-five job place five))
 
 -- a job that passes the checks is refused with 5 just if no cuts are chosen
-pub five_test : (job : Job) → Passed job → not (is_chosen (cheapest_for job)) ≡ is_five (plan_answer job)
+pub five_test : (job : Job) → Passed job → not (is_some (found_of job.weights (cheapest_for job))) ≡ is_five (plan_answer job)
 unfolding is_five plan_with
 five_test job passed = go (cheapest_for job) ∙ sym (ap is_five (plan_of_passed job passed))
   where
-    go : (o : Option (List ℕ)) → not (is_chosen o) ≡ is_five (plan_with job o)
+    go : (o : Option (List ℕ)) → not (is_some (found_of job.weights o)) ≡ is_five (plan_with job o)
     go none = refl
     go (some cuts) = refl
 
@@ -115,46 +117,54 @@ module _ (job : Job) (passed : Passed job) where
         first_such_is (is_refused_divisor job) 1 job.p (entry k) (entry_pos job.p k inside) (omega (arith, entry-le job.p k inside))
         ((refused_divisor_iff (entry k)).1 (dvd_of_entry job.p k inside, e)) none_below
 
--- ---- the same by the list that `divisors` returns
+-- ---- the same by the list that `divisors` returns, of which the last is p
 
-module _ (job : Job) (five : plan_answer job ≡ refused 5 0) (count : ℕ) (of : List ℕ) (listed : Listed (divisors_answer job.p) count of) where
+module _ (job : Job) (five : plan_answer job ≡ refused 5 0) (of : List ℕ) (listed : of ≡ divisors_answer job.p) where
   in-range : Passed job
   in-range = passed_of-five job 0 five
 
-  are : divisors_answer job.p ≡ divisors_of job.p
-  are = divisors_answer_inside job.p in-range.range.p_high
+  are : of ≡ divisors_of job.p
+  are = listed ∙ divisors_answer_inside job.p in-range.range.p_high
 
-  counted : count ≡ length (divisors_of job.p)
-  counted = listed.counted ∙ ap length are
+  -- p is one of them
+  pub listed_some : 1 ≤ length of
+  listed_some =
+      let (j, inside, is) = entry_of-dvd job.p job.p in-range.range.p_low (dvd_refl job.p) in
+      omega (arith, inside, ap length are)
 
-  at : (i : ℕ) → i < count → get_or of i 0 ≡ get_or (divisors_of job.p) i 0
-  at i l = listed_inside (divisors_answer job.p) count of listed i (omega (arith, listed.counted)) ∙ ap (λ (xs : List ℕ). get_or xs i 0) are
+  -- those before the last
+  abbrev pub smaller : List ℕ
+  smaller = take (length of - 1) of
 
-  pub listed_few : count ≤ 127
-  listed_few = omega (arith, counted, length-divisors_of-le job.p in-range.range.p_high)
+  count : length smaller + 1 ≡ length (divisors_of job.p)
+  count = omega (arith, length-take-le (length of - 1) of (omega arith), listed_some, ap length are)
+
+  at : (i : ℕ) → i < length smaller → get_or smaller i 0 ≡ get_or (divisors_of job.p) i 0
+  at i l =
+      get_or-take (length of - 1) of i 0 (omega (arith, length-take-le (length of - 1) of (omega arith)))
+      ∙ ap (λ (xs : List ℕ). get_or xs i 0) are
 
   -- each passes the checks
-  pub listed_passed : (k : ℕ) → k < count → Passed (job_for (get_or of k 0) job)
-  listed_passed k l =
-      subst (λ (x : ℕ). Passed (job_for x job)) (sym (at k l)) (passed_for job in-range _ (dvd_of_entry job.p k (omega (arith, counted))))
+  pub listed_passed : (k : ℕ) → k < length smaller → Passed (job_for (get_or smaller k 0) job)
+  listed_passed k l = subst (λ (x : ℕ). Passed (job_for x job)) (sym (at k l)) (passed_for job in-range _ (dvd_of_entry job.p k (omega (arith, count))))
 
-  module _ (k : ℕ) (before : (i : ℕ) → i < k → is_five (plan_answer (job_for (get_or of i 0) job)) ≡ false) where
-    before_entry : (j : ℕ) → j ≤ k → j < count → (i : ℕ) → i < j → is_five (plan_answer (job_for (get_or (divisors_of job.p) i 0) job)) ≡ false
+  module _ (k : ℕ) (before : (i : ℕ) → i < k → is_five (plan_answer (job_for (get_or smaller i 0) job)) ≡ false) where
+    before_entry : (j : ℕ) → j ≤ k → j ≤ length smaller → (i : ℕ) → i < j → is_five (plan_answer (job_for (get_or (divisors_of job.p) i 0) job)) ≡ false
     before_entry j low high i l = ap (λ (x : ℕ). is_five (plan_answer (job_for x job))) (sym (at i (omega arith))) ∙ before i (omega arith)
 
     -- the first that is refused
-    pub smallest_listed : k < count → is_five (plan_answer (job_for (get_or of k 0) job)) ≡ true → get_or of k 0 ≡ smallest_refused job
+    pub smallest_listed : k < length smaller → is_five (plan_answer (job_for (get_or smaller k 0) job)) ≡ true → get_or smaller k 0 ≡ smallest_refused job
     smallest_listed l t =
         at k l
-        ∙ sym (smallest_entry job in-range k (omega (arith, counted)) (before_entry k (omega arith) l)
+        ∙ sym (smallest_entry job in-range k (omega (arith, count)) (before_entry k (omega arith) (omega arith))
         ((five_iff (job_for (get_or (divisors_of job.p) k 0) job)).0 (ap (λ (x : ℕ). is_five (plan_answer (job_for x job))) (sym (at k l)) ∙ t)))
 
-    -- p itself, where all before the last are passed over
-    pub smallest_last : count ≤ suc k → job.p ≡ smallest_refused job
+    -- p itself, where all are passed over
+    pub smallest_last : length smaller ≤ k → job.p ≡ smallest_refused job
     smallest_last l =
         let (j, inside, is) = entry_of-dvd job.p job.p in-range.range.p_low (dvd_refl job.p) in
         sym is
-        ∙ sym (smallest_entry job in-range j inside (before_entry j (omega (arith, counted)) (omega (arith, counted)))
+        ∙ sym (smallest_entry job in-range j inside (before_entry j (omega (arith, count)) (omega (arith, count)))
         (ap (λ (x : ℕ). plan_answer (job_for x job)) is ∙ five))
 
 -- ---- what the answer says

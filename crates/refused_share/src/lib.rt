@@ -1,70 +1,53 @@
 // The smallest share of the machine that is refused too: of a job refused with 5, the smallest divisor of p for which the same job is refused with 5.
 #![tactic(auto)]
 
-ghost use Rattle.std.specs.Prelude.{◌≡◌, length};
+ghost use Rattle.std.specs.Prelude.{◌≡◌};
 ghost use Rattle.multipartition.specs.Answers.{refused};
-ghost use Rattle.multipartition.specs.Plans.{job_with};
 ghost use Rattle.multipartition.specs.Jobs.{Passed, plan_answer};
+ghost use Rattle.refusals.specs.Told.{told_by, maybe};
+ghost use Rattle.planner.specs.Asked.{asked};
+ghost use Rattle.planner.specs.Planned.{passed_job};
 ghost use Rattle.refused_share.specs.Shares.{is_five, smallest_refused, share_answer};
-ghost use Rattle.refused_share.specs.Told.{told_share};
 
 use numbers::factors::divisors;
-use planner::{cuts_of, turned_down};
-
-// The divisor, or nothing to show, or a refusal.
-#[derive(Clone, Copy)]
-pub enum RefusedShare {
-    Divisor(u32),
-    Nothing,
-    Refused { number: u32, place: u32 },
-}
+use planner::{Job, PassedJob};
+use refusals::Refusal;
 
 // Whether a job that passes the planner's checks is refused with 5: no plan is made.
-fn is_five(p: u32, extents: &[u32], weights: &[u32], least: &[u32]) -> bool
-    requires { Passed (job_with p (length extents.now) extents.now weights.now least.now) }
-    ensures { result ≡ is_five (plan_answer (job_with p (length extents.now) extents.now weights.now least.now)) }
+fn is_five(passed: PassedJob) -> bool
+    requires { Passed (passed_job passed) }
+    ensures { result ≡ is_five (plan_answer (passed_job passed.entry)) }
 {
-    let found = cuts_of(p, extents, weights, least);
-    !found.ok
+    passed.cuts_of().is_none()
 }
 
 // The smallest divisor of p for which a job is refused with 5, where it is so for p itself, the last divisor.
-fn smallest(p: u32, extents: &[u32], weights: &[u32], least: &[u32]) -> u32
-    requires { plan_answer (job_with p (length extents.now) extents.now weights.now least.now) ≡ refused 5 0 }
-    ensures { result ≡ smallest_refused (job_with p (length extents.now) extents.now weights.now least.now) }
+fn smallest(passed: PassedJob) -> u32
+    requires { plan_answer (passed_job passed) ≡ refused 5 0 }
+    ensures { result ≡ smallest_refused (passed_job passed.entry) }
 {
-    let found = divisors(p);
-    let of = found.of;
-    let count = found.count;
-    for k in 1..count {
-        let x = of[k - 1];
-        if is_five(x, extents, weights, least) {
-            return x;
+    let job = passed.job;
+    let found = divisors(job.p);
+    let places = found.as_slice();
+    for x in &places[..places.len() - 1] {
+        let share = PassedJob {
+            job: Job { p: *x, ..job },
+        };
+        if is_five(share) {
+            return *x;
         }
     }
-    p
+    job.p
 }
 
 // The smallest divisor of p for which the same job is refused with 5, for a job that is refused so; nothing to show for an accepted one.
-pub fn smallest_refused(
-    p: u32,
-    d: usize,
-    extents: &[u32],
-    weights: &[u32],
-    least: &[u32],
-) -> RefusedShare
-    ensures { told_share result ≡ share_answer (job_with p d extents.now weights.now least.now) }
+pub fn smallest_refused(job: Job) -> Result<Option<u32>, Refusal>
+    ensures { told_by maybe result ≡ share_answer (asked job.entry) }
 {
-    let turned = turned_down(p, d, extents, weights, least);
-    if turned.number != 0 {
-        return RefusedShare::Refused {
-            number: turned.number,
-            place: turned.place,
-        };
+    let passed = job.checked()?;
+    if !is_five(passed) {
+        return Ok(None);
     }
-    if !is_five(p, extents, weights, least) {
-        return RefusedShare::Nothing;
-    }
-    let x = smallest(p, extents, weights, least);
-    RefusedShare::Divisor(x)
+    let x = smallest(passed);
+    Ok(Some(x))
 }

@@ -5,8 +5,7 @@ use mathlib.Core.Logic.{inl, inr}
 use mathlib.Core.Option.{Option, none, some, none-ne-some}
 use mathlib.Core.Path.{◌≡◌, refl, sym, ap, ◌∙◌, subst, subst⁻¹}
 use Prim.Native.Nat.{ℕ, zero, ◌≤◌, ◌<◌}
-use native.Mathlib.Omega.{arith}
-use Rattle.multipartition.specs.Answers.{Answer, answered}
+use Rattle.multipartition.specs.Answers.{Answer, answered, refused}
 use Rattle.multipartition.specs.Cuts.{Even, cost_of}
 use Rattle.multipartition.specs.Jobs.{PlanFor, Passed, cheapest_for, plan_with, plan_answer}
 use Rattle.multipartition.specs.Owners.{owner_of}
@@ -21,8 +20,9 @@ use Rattle.multipartition.proofs.Owners.{even_owners}
 use Rattle.layout.specs.declared.Plan.{Plan}
 use Rattle.layout.specs.Plans.{layout_of, plan_of}
 use Rattle.layout.proofs.Plans.{layout_of-plan, layout_with_sized}
-use Rattle.planner.specs.Planned.{planned_of}
-use Rattle.rivals.specs.Demand3.{cuts_of, owner_in, EvenPlan, Ours, Demand3}
+use Rattle.refusals.proofs.Laws.{answered-ne-refused, answered-is}
+use Rattle.planner.specs.Planned.{planned_answer}
+use Rattle.rivals.specs.Demand3.{cuts_of, owner_in, EvenPlan, Ours, Accepted, Demand3}
 use Rattle.rivals.proofs.EvenPlans.{owner_by_lem, even-plan}
 
 module _ (job : Job) (plan : Plan) (e : plan_answer job ≡ answered (layout_of plan)) where
@@ -71,38 +71,40 @@ module _ (job : Job) (plan : Plan) (e : plan_answer job ≡ answered (layout_of 
         (sym (owner_of_lem x w) ∙ same-owner ∙ owner_of_lem y v);
   }
 
+-- a refusal is no plan
+not-accepted : (number place : ℕ) → Accepted (refused number place) → ⊥
+not-accepted number place accepted = answered-ne-refused (sym accepted.1)
+
 -- DEMAND 3, for all jobs in the stated ranges and all rivals.
-pub demand-3 : (job : Job) → Passed job → Demand3 job (planned_of (plan_answer job))
-unfolding planned_of plan_with
+pub demand-3 : (job : Job) → Passed job → Demand3 job (planned_answer (plan_answer job))
+unfolding plan_with
 demand-3 job passed = go (cheapest_for job) refl
   where
-    go : (chosen : Option (List ℕ)) → cheapest_for job ≡ chosen → Demand3 job (planned_of (plan_answer job))
+    go : (chosen : Option (List ℕ)) → cheapest_for job ≡ chosen → Demand3 job (planned_answer (plan_answer job))
     go none e =
-        subst⁻¹ (λ (a : Answer Layout). Demand3 job (planned_of a))
+        subst⁻¹ (λ (a : Answer Layout). Demand3 job (planned_answer a))
         (plan_of_passed job passed ∙ ap (plan_with job) e)
         (record {
           accepts = (
-            (λ (z : ◌≡◌ {A = ℕ} 5 0). absurd (omega arith)),
+            (λ accepted. absurd (not-accepted 5 0 accepted)),
             λ rival. absurd (none-ne-some _ (sym e ∙ ((balanced_iff-chosen job passed).0 rival).1)),
           );
           refuses = inr refl;
-          ours = λ (z : ◌≡◌ {A = ℕ} 5 0). absurd (omega arith);
+          ours = λ plan answers. absurd (answered-ne-refused (sym answers));
         })
     go (some cuts) e =
         let answers : plan_answer job ≡ answered (layout_with job cuts) =
         plan_of_passed job passed ∙ ap (plan_with job) e in
         let back : layout_of (plan_of (layout_with job cuts)) ≡ layout_with job cuts =
         layout_of-plan (layout_with job cuts) (layout_with_sized job cuts passed (chosen-length job passed cuts e)) in
-        subst⁻¹ (λ (a : Answer Layout). Demand3 job (planned_of a)) answers
+        subst⁻¹ (λ (a : Answer Layout). Demand3 job (planned_answer a)) answers
         (record {
-          accepts = ((λ z. (balanced_iff-chosen job passed).1 (cuts, e)), λ rival. refl);
-          refuses = inl refl;
-          ours = λ z. ours job (plan_of (layout_with job cuts)) (answers ∙ ap answered (sym back));
+          accepts = ((λ accepted. (balanced_iff-chosen job passed).1 (cuts, e)), λ rival. (plan_of (layout_with job cuts), refl));
+          refuses = inl (plan_of (layout_with job cuts), refl);
+          ours = λ plan same. subst (Ours job) (answered-is same) (ours job (plan_of (layout_with job cuts)) (answers ∙ ap answered (sym back)));
         })
 
 -- so every plan that the planner answers is even
 pub planner_even : (job : Job) (layout : Layout) → plan_answer job ≡ answered layout → EvenPlan job (plan_of layout)
-unfolding planned_of
 planner_even job layout made =
-    let met = subst (λ (a : Answer Layout). Demand3 job (planned_of a)) made (demand-3 job (plan_answered job layout made).passed) in
-    (met.ours refl).even
+    ((demand-3 job (plan_answered job layout made).passed).ours (plan_of layout) (ap planned_answer made)).even

@@ -2,28 +2,28 @@
 use mathlib.Core.Bool.{true}
 use mathlib.Core.List.{List, [], ◌∷◌}
 use mathlib.Core.Path.{◌≡◌, refl, sym, ap, ap₂, ◌∙◌, subst, subst⁻¹}
-use Prim.Native.Nat.{ℕ, suc, ◌+◌, ◌*◌, ◌/◌, ◌^◌, ◌≤◌, ◌<◌}
+use Prim.Native.Nat.{ℕ, suc, ◌*◌, ◌/◌, ◌^◌, ◌≤◌, ◌<◌}
 use native.Mathlib.Omega.{arith}
 use lib.ListN.{length, get_or, length-replicate, get_or-replicate}
 use Rattle.numbers.specs.Products.{product}
 use Rattle.multipartition.specs.Answers.{Answer, answered, refused}
 use Rattle.multipartition.specs.Cuts.{Fits, cost_of}
-use Rattle.multipartition.specs.Jobs.{first_outside, first_zero, plan_answer}
+use Rattle.multipartition.specs.Jobs.{plan_answer}
 use Rattle.multipartition.specs.Plans.{Job, Layout, job_of, in_shape}
 use Rattle.multipartition.specs.Questions.{owner_by}
 use Rattle.multipartition.specs.Rivals.{Rival, held}
 use Rattle.multipartition.specs.Tiles.{Inside}
-use Rattle.multipartition.proofs.Answers.{Small}
 use Rattle.layout.specs.declared.Plan.{Plan}
 use Rattle.layout.specs.Plans.{layout_of, plan_of}
 use Rattle.layout.proofs.Plans.{layout_of-plan}
-use Rattle.planner.specs.Planned.{planned_of}
+use Rattle.refusals.proofs.Laws.{answered-ne-refused, answered-is}
+use Rattle.planner.specs.Planned.{planned_answer}
 use Rattle.diagonal.specs.Diagonal.{diagonal_cuts, diagonal_moduli, diagonal_matrix, diagonal_owner, diagonal_answer, DiagonalFor}
-use Rattle.diagonal.proofs.Answers.{diagonal-suits, diagonal_answered, diagonal_answer-in_shape, diagonal_answer_sized, diagonal_small}
+use Rattle.diagonal.proofs.Answers.{diagonal-suits, diagonal_answered, diagonal_answer-in_shape, diagonal_answer_sized}
 use Rattle.diagonal.proofs.Plans.{diagonal_shares, diagonal_owner-2, diagonal_owner-3}
 use Rattle.diagonal.proofs.Places.{moduli_of-2, moduli_of-3, matrix_of-2, matrix_of-3}
 use Rattle.diagonal.proofs.Sides.{power-one, square, pow_injective, suits_iff}
-use Rattle.rivals.specs.Demand3.{cuts_of, owner_in, EvenPlan, Demand3}
+use Rattle.rivals.specs.Demand3.{cuts_of, owner_in, EvenPlan, Accepted, Demand3}
 use Rattle.rivals.specs.DiagonalPlans.{Diagonal, DiagonalPlans}
 use Rattle.rivals.proofs.EvenPlans.{owner_by_lem, rival_of, even-plan}
 use Rattle.rivals.proofs.Demand3.{demand-3}
@@ -76,16 +76,15 @@ module _ (job : Job) (plan : Plan) (shaped : in_shape (layout_of plan) ≡ true)
   abbrev rival : Rival job
   rival = rival_of job plan held_job shaped even.fits
 
-  against : Demand3 job (planned_of (plan_answer job))
+  against : Demand3 job (planned_answer (plan_answer job))
   against = demand-3 job made.passed
 
-  accepted : (planned_of (plan_answer job)).number ≡ 0
+  accepted : Accepted (planned_answer (plan_answer job))
   accepted = against.accepts.1 (rival, even.balanced)
 
-  no_cheaper : (planned_of (plan_answer job)).plan.cost ≤ plan.cost
-  no_cheaper =
-      subst⁻¹ (λ (n : ℕ). (planned_of (plan_answer job)).plan.cost ≤ n) cost_is
-      ((against.ours accepted).cheapest_of_all rival even.balanced)
+  no_cheaper : (ours : Plan) → planned_answer (plan_answer job) ≡ answered ours → ours.cost ≤ plan.cost
+  no_cheaper ours answers =
+      subst⁻¹ (λ (n : ℕ). ours.cost ≤ n) cost_is ((against.ours ours answers).cheapest_of_all rival even.balanced)
 
   owner_is : (x : List ℕ) → Inside (cuts_of plan) x → owner_in plan x ≡ diagonal_owner job.d made.s x
   owner_is x w = owner_by_lem job plan held_job shaped x w ∙ ap (λ (own : List ℕ → ℕ). own x) owners_are
@@ -126,19 +125,16 @@ module _ (job : Job) (plan : Plan) (shaped : in_shape (layout_of plan) ≡ true)
   }
 
 -- "Diagonal plans are shown even and never cheaper than the planner's", for all jobs.
-pub diagonal_plans : (job : Job) → DiagonalPlans job (planned_of (diagonal_answer job))
-unfolding planned_of
+pub diagonal_plans : (job : Job) → DiagonalPlans job (planned_answer (diagonal_answer job))
 diagonal_plans job = go (diagonal_answer job) refl
   where
-    go : (a : Answer Layout) → diagonal_answer job ≡ a → DiagonalPlans job (planned_of a)
-    go (answered l) e z =
+    go : (a : Answer Layout) → diagonal_answer job ≡ a → DiagonalPlans job (planned_answer a)
+    go (answered l) e plan answers =
         let back : diagonal_answer job ≡ answered (layout_of (plan_of l)) = e ∙ ap answered (sym (layout_of-plan l (diagonal_answer_sized job l e))) in
-        diagonal job (plan_of l) (diagonal_answer-in_shape job (layout_of (plan_of l)) back) ((diagonal_answered job (layout_of (plan_of l))).0 back)
-    go (refused number place) e z =
-        let most : ℕ = first_outside job.extents + first_zero job.least in
-        let small = subst (Small most) e (diagonal_small job most (omega arith) (omega arith)) in absurd (omega (arith, small.0, z))
+        subst (Diagonal job) (answered-is answers)
+        (diagonal job (plan_of l) (diagonal_answer-in_shape job (layout_of (plan_of l)) back) ((diagonal_answered job (layout_of (plan_of l))).0 back))
+    go (refused number place) e plan answers = absurd (answered-ne-refused (sym answers))
 
 -- so every plan that the diagonal call answers is even
 pub diagonal_even : (job : Job) (layout : Layout) → diagonal_answer job ≡ answered layout → EvenPlan job (plan_of layout)
-unfolding planned_of
-diagonal_even job layout made = (subst (λ (a : Answer Layout). DiagonalPlans job (planned_of a)) made (diagonal_plans job) refl).even
+diagonal_even job layout made = (diagonal_plans job (plan_of layout) (ap planned_answer made)).even

@@ -13,7 +13,6 @@ use Rattle.multipartition.specs.Rivals.{Rival, held, Balanced, Face}
 use Rattle.multipartition.specs.Tiles.{Inside, one_step_on}
 use Rattle.layout.specs.declared.Plan.{Plan}
 use Rattle.layout.specs.Plans.{layout_of}
-use Rattle.planner.specs.declared.Planned.{Planned}
 
 -- the cuts of a plan
 abbrev pub cuts_of : Plan → List ℕ
@@ -73,11 +72,15 @@ pub record Ours (job : Job) (plan : Plan) : Type 0 where
   -- tiles with a common face have different owners
   pub faces_differ : (x y : List ℕ) → Inside (cuts_of plan) x → Inside (cuts_of plan) y → Face x y → owner_in plan x ≢ owner_in plan y
 
--- Demand 3 for a job that planner::plan_job answers with `planned`.
-pub record Demand3 (job : Job) (planned : Planned) : Type 0 where
+-- an answer is a plan
+abbrev pub Accepted : Answer Plan → Type 0
+Accepted answer = (plan : Plan) × (answer ≡ answered plan)
+
+-- Demand 3 for a job that planner::plan_job answers with `answer`.
+pub record Demand3 (job : Job) (answer : Answer Plan) : Type 0 where
   -- "ours accepts exactly when some rival gives every processor equally many tiles in every slab"
-  pub accepts : (planned.number ≡ 0) ↔ ((rival : Rival job) × Balanced job.p rival.cuts rival.owner)
+  pub accepts : Accepted answer ↔ ((rival : Rival job) × Balanced job.p rival.cuts rival.owner)
   -- and else refuses with 5
-  pub refuses : (planned.number ≡ 0) ⊎ (planned.number ≡ 5)
+  pub refuses : Accepted answer ⊎ (answer ≡ refused 5 0)
   -- "ours then does too, and costs no more"; faces and neighbours
-  pub ours : planned.number ≡ 0 → Ours job planned.plan
+  pub ours : (plan : Plan) → answer ≡ answered plan → Ours job plan

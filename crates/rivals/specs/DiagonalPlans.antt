@@ -1,15 +1,15 @@
 -- Document 02, request c: "Diagonal plans are shown even and never cheaper than the planner's". The calls promise the definitions diagonal_answer,
 -- plan_answer and owner_answer, which stand here for them.
 use Rattle.std.specs.Prelude.{[], ◌∷◌, ◌⊎◌, ◌≡◌, ℕ, ◌+◌, ◌-◌, ◌*◌, ◌%◌, ◌≤◌, pos, ◌-ℤ◌}
+use Rattle.multipartition.specs.Answers.{Answer, answered}
 use Rattle.multipartition.specs.Jobs.{plan_answer}
 use Rattle.multipartition.specs.Matrix.{remainder}
 use Rattle.multipartition.specs.Plans.{Job}
 use Rattle.multipartition.specs.Tiles.{Inside}
 use Rattle.layout.specs.declared.Plan.{Plan}
 use Rattle.layout.specs.Plans.{layout_of}
-use Rattle.planner.specs.declared.Planned.{Planned}
-use Rattle.planner.specs.Planned.{planned_of}
-use Rattle.rivals.specs.Demand3.{cuts_of, owner_in, EvenPlan}
+use Rattle.planner.specs.Planned.{planned_answer}
+use Rattle.rivals.specs.Demand3.{cuts_of, owner_in, EvenPlan, Accepted}
 
 -- What holds of a plan that diagonal::diagonal_job answers.
 pub record Diagonal (job : Job) (plan : Plan) : Type 0 where
@@ -18,8 +18,8 @@ pub record Diagonal (job : Job) (plan : Plan) : Type 0 where
   -- "shown even"
   pub even : EvenPlan job plan
   -- "never cheaper than the planner's": the planner accepts the job too, and its plan costs no more
-  pub planned_too : (planned_of (plan_answer job)).number ≡ 0
-  pub never_cheaper : (planned_of (plan_answer job)).plan.cost ≤ plan.cost
+  pub planned_too : Accepted (planned_answer (plan_answer job))
+  pub never_cheaper : (ours : Plan) → planned_answer (plan_answer job) ≡ answered ours → ours.cost ≤ plan.cost
   -- the layouts are for "d = 2" and for "d = 3 and p = s·s"
   pub suited : (job.d ≡ 2) ⊎ ((job.d ≡ 3) × ((s : ℕ) × (job.p ≡ s * s)))
   -- "For d = 2 there are p cuts each way and the owner is (i1 − i2) modulo p." "Their moduli are 1 p .. Row 1 is zero; row 2 is 1 p−1 for d = 2 ..
@@ -37,6 +37,6 @@ pub record Diagonal (job : Job) (plan : Plan) : Type 0 where
   pub owner_3 : job.d ≡ 3 → (s : ℕ) → job.p ≡ s * s → (i1 i2 i3 : ℕ) → Inside (cuts_of plan) (i1 ∷ i2 ∷ i3 ∷ [])
       → owner_in plan (i1 ∷ i2 ∷ i3 ∷ []) ≡ remainder (pos i1 -ℤ pos i3) s * s + remainder (pos i2 -ℤ pos i3) s
 
--- for a job that diagonal::diagonal_job answers with `planned`
-abbrev pub DiagonalPlans : Job → Planned → Type 0
-DiagonalPlans job planned = planned.number ≡ 0 → Diagonal job planned.plan
+-- for a job that diagonal::diagonal_job answers with `answer`
+abbrev pub DiagonalPlans : Job → Answer Plan → Type 0
+DiagonalPlans job answer = (plan : Plan) → answer ≡ answered plan → Diagonal job plan

@@ -1,2 +1,3 @@
-pub mod Answers
+pub mod Fits
 pub mod Planning
+pub mod Steps

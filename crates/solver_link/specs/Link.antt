@@ -1,23 +1,20 @@
 -- The calls of the link for a solver in C (document 01, "Tiles, slabs, chains").
-use Rattle.std.specs.Prelude.{not, cond, List, [], ◌∷◌, ℕ, min, eqb, length, replicate}
+use Rattle.std.specs.Prelude as options
+use Rattle.std.specs.Prelude.{not, List, [], ◌∷◌, ℕ, eqb, length, replicate}
 use Rattle.std.proofs.Math.Option.{Option, none, some}
-use Rattle.multipartition.specs.Answers.{Answer, answered, refused, Check, checked}
+use Rattle.multipartition.specs.Answers.{Answer, answered, refused, checked}
 use Rattle.multipartition.specs.Plans.{Layout, job_with}
 use Rattle.multipartition.specs.Jobs.{plan_answer}
 use Rattle.multipartition.specs.Questions.{owner_answer, neighbour_answer, slab_answer, slab_of_answer, number_answer, position_answer, step_answer, chains_answer}
 use Rattle.layout.specs.Plans.{layout_of, plan_of}
-use Rattle.planner.specs.declared.Planned.{Planned}
 use Rattle.refused_share.specs.Shares.{share_answer}
 use Rattle.diagonal.specs.Diagonal.{diagonal_answer}
 use Rattle.hypercube.specs.Hypercube.{hypercube_answer}
 use Rattle.probes.specs.Probes.{probes_answer}
 use Rattle.sheet.specs.Pages.{sheet_answer}
+use Rattle.tiles.specs.declared.positions.Position.{Position}
 use Rattle.timetable.specs.Timetable.{timetable_answer}
-use Rattle.link_lists.specs.Lists.{plan_in, list_of_plan, plan_places, into, visit_numbers}
-
--- "Over that link a plan list of a wrong length is a 6"
-abbrev pub plan_list_check : List ℕ → Check
-plan_list_check list = record { fails = not (eqb (length list) plan_places); number = 6; place = 0 }
+use Rattle.link_lists.specs.Lists.{plan_in, list_of_plan, plan_list_check, place_in32, into, visit_numbers}
 
 -- what follows an answer; a refusal stays
 abbrev pub and_then : {A B : Type 0} → Answer A → (A → Answer B) → Answer B
@@ -28,11 +25,6 @@ and_then (refused number place) next = refused number place
 abbrev pub plan_listed : ℕ → Answer Layout → Answer (List ℕ)
 plan_listed places asked = and_then asked (λ layout. into places (list_of_plan (plan_of layout)))
 
--- the same of what a planning call answered, whose number is 0 for a plan
-unfoldable pub planned_listed : ℕ → Planned → Answer (List ℕ)
-planned_listed places planned =
-    cond (eqb planned.number 0) (into places (list_of_plan planned.plan)) (refused planned.number planned.place)
-
 -- an owner that is answered: the processor
 abbrev pub owner_listed : ℕ → Answer ℕ → Answer (List ℕ)
 owner_listed places asked = and_then asked (λ q. into places (q ∷ []))
@@ -42,14 +34,17 @@ abbrev pub found_numbers : Option ℕ → List ℕ
 found_numbers none = 0 ∷ 0 ∷ []
 found_numbers (some x) = 1 ∷ x ∷ []
 
+-- the same as an answer
+abbrev pub found_listed : ℕ → Answer (Option ℕ) → Answer (List ℕ)
+found_listed places asked = and_then asked (λ found. into places (found_numbers found))
+
 -- planning, with a list of least thicknesses that may be empty (document 02, request g)
 unfoldable pub plan_link : ℕ → ℕ → List ℕ → List ℕ → List ℕ → ℕ → Answer (List ℕ)
 plan_link p d extents weights least places = plan_listed places (plan_answer (job_with p d extents weights least))
 
 -- the smallest divisor of p for which the same job is refused with 5 (document 02, request j)
 unfoldable pub smallest_refused_link : ℕ → ℕ → List ℕ → List ℕ → List ℕ → ℕ → Answer (List ℕ)
-smallest_refused_link p d extents weights least places =
-    and_then (share_answer (job_with p d extents weights least)) (λ found. into places (found_numbers found))
+smallest_refused_link p d extents weights least places = found_listed places (share_answer (job_with p d extents weights least))
 
 -- a diagonal plan (document 02, request c), likewise
 unfoldable pub diagonal_link : ℕ → ℕ → List ℕ → List ℕ → List ℕ → ℕ → Answer (List ℕ)
@@ -66,8 +61,7 @@ owner_link list position places = checked (plan_list_check list ∷ []) (owner_l
 -- the neighbour of a processor; a direction other than 0 is up
 unfoldable pub neighbour_link : List ℕ → ℕ → ℕ → ℕ → ℕ → Answer (List ℕ)
 neighbour_link list q k up places =
-    checked (plan_list_check list ∷ [])
-    (and_then (neighbour_answer (layout_of (plan_in list)) q k (not (eqb up 0))) (λ found. into places (found_numbers found)))
+    checked (plan_list_check list ∷ []) (found_listed places (neighbour_answer (layout_of (plan_in list)) q k (not (eqb up 0))))
 
 -- a slab: its first element and the element after its last
 unfoldable pub slab_link : List ℕ → ℕ → ℕ → ℕ → Answer (List ℕ)
@@ -79,12 +73,11 @@ unfoldable pub slab_of_link : List ℕ → ℕ → ℕ → ℕ → Answer (List 
 slab_of_link list k element places =
     checked (plan_list_check list ∷ []) (and_then (slab_of_answer (layout_of (plan_in list)) k element) (λ s. into places (s ∷ [])))
 
--- a place in 32 bits: a larger one is given as 4,294,967,295
-abbrev pub place_in32 : {A : Type 0} → Answer A → Answer A
-place_in32 (answered a) = answered a
-place_in32 (refused number place) = refused number (min place 4294967295)
+-- the slabs of a probe line, in a list that held `lent` (document 02, request h), with the place of a fall whatever it is
+unfoldable pub probes_listed : List ℕ → ℕ → List ℕ → List ℕ → Answer (List ℕ)
+probes_listed list k elements lent = checked (plan_list_check list ∷ []) (probes_answer (layout_of (plan_in list)) k elements lent)
 
--- the slabs of a probe line, in a list that held `lent` (document 02, request h)
+-- the same with the place in 32 bits
 unfoldable pub slabs_of_link : List ℕ → ℕ → List ℕ → List ℕ → Answer (List ℕ)
 slabs_of_link list k elements lent = checked (plan_list_check list ∷ []) (place_in32 (probes_answer (layout_of (plan_in list)) k elements lent))
 
@@ -106,6 +99,11 @@ tile_position_link list tile places =
 abbrev pub step_numbers : ℕ → Option (List ℕ) → List ℕ
 step_numbers d none = 0 ∷ replicate d 0
 step_numbers d (some position) = 1 ∷ position
+
+-- the numbers that the call takes these from: 1 and the five places of the position, or six zeros
+abbrev pub step_places : options.Option Position → List ℕ
+step_places options.None = replicate 6 0
+step_places (options.Some position) = 1 ∷ position.at
 
 -- the position one step on; a direction other than 0 is up
 unfoldable pub step_link : List ℕ → List ℕ → ℕ → ℕ → ℕ → Answer (List ℕ)

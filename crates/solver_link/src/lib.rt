@@ -2,31 +2,34 @@
 // place in the upper 32 bits.
 #![tactic(auto)]
 
-ghost use Rattle.std.specs.Prelude.{◌≡◌, ◌≤◌, min, length};
+ghost use Rattle.std.specs.Prelude.{◌≡◌, length};
+ghost use Rattle.multipartition.specs.Plans.{job_with};
+ghost use Rattle.planner.specs.Asked.{asked};
 ghost use Rattle.link_lists.specs.Lists.{Linked};
-ghost use Rattle.solver_link.specs.Link.{planned_listed, plan_link, smallest_refused_link, diagonal_link, hypercube_owner_link, owner_link, neighbour_link, slab_link, slab_of_link, slabs_of_link, slab_sheet_link, tile_number_link, tile_position_link, step_link, timetable_link, chains_link};
+ghost use Rattle.solver_link.specs.Link.{plan_link, smallest_refused_link, diagonal_link, hypercube_owner_link, owner_link, neighbour_link, slab_link, slab_of_link, slabs_of_link, slab_sheet_link, tile_number_link, tile_position_link, step_link, timetable_link, chains_link};
 
-use chains::Chained;
-use planner::Planned;
-use probes::Probed;
-use questions::{Neighbour, Owner};
-use refused_share::RefusedShare;
-use sheet::Sheet;
-use tiles::positions::{Lookup, Position, Step, TileNumber};
-use tiles::slabs::{Elements, SlabNumber};
-use tiles::{positions, slabs};
-use timetable::Visited;
+use link_lists::code;
+use planner::Job;
 
-// What a planning call answered: the answer list gets the plan list.
-fn put_planned(planned: Planned, list: &mut [u32]) -> u64
-    requires { planned.plan.d ≤ 5 }
-    ensures { Linked (planned_listed (length list.old) planned) list.old result list.new }
+mod calls; // calls.rt: the calls with their refusals
+
+// A job by its numbers and lists.
+fn job<'a>(
+    processors: u32,
+    dimensions: u32,
+    extents: &'a [u32],
+    weights: &'a [u32],
+    least: &'a [u32],
+) -> Job<'a>
+    ensures { asked result ≡ job_with processors dimensions extents.now weights.now least.now }
 {
-    if planned.number != 0 {
-        return link_lists::joined(planned.number, planned.place);
+    Job {
+        p: processors,
+        d: dimensions as usize,
+        extents,
+        weights,
+        least,
     }
-    let found = planned.plan;
-    link_lists::put_plan(list, found)
 }
 
 // Plans a job: the answer list gets the plan list. An empty list of least thicknesses stands for 1 in every dimension.
@@ -41,8 +44,7 @@ pub extern "C" fn multipartition_plan(
 ) -> u64
     ensures { Linked (plan_link processors dimensions extents.now weights.now least.now (length plan.old)) plan.old result plan.new }
 {
-    let planned = planner::plan_job(processors, dimensions as usize, extents, weights, least);
-    put_planned(planned, plan)
+    code(calls::plan(job(processors, dimensions, extents, weights, least), plan))
 }
 
 // The smallest divisor of the processor count for which the same job is refused with 5, of a job refused with 5: the answer list gets 1 and the
@@ -58,18 +60,7 @@ pub extern "C" fn multipartition_smallest_refused(
 ) -> u64
     ensures { Linked (smallest_refused_link processors dimensions extents.now weights.now least.now (length answer.old)) answer.old result answer.new }
 {
-    let share = refused_share::smallest_refused(
-        processors,
-        dimensions as usize,
-        extents,
-        weights,
-        least,
-    );
-    match share {
-        RefusedShare::Divisor(x) => link_lists::put_two(answer, 1, x),
-        RefusedShare::Nothing => link_lists::put_two(answer, 0, 0),
-        RefusedShare::Refused { number, place } => link_lists::joined(number, place),
-    }
+    code(calls::smallest_refused(job(processors, dimensions, extents, weights, least), answer))
 }
 
 // Plans a job with the diagonal layout, likewise.
@@ -84,8 +75,7 @@ pub extern "C" fn multipartition_diagonal(
 ) -> u64
     ensures { Linked (diagonal_link processors dimensions extents.now weights.now least.now (length plan.old)) plan.old result plan.new }
 {
-    let planned = diagonal::diagonal_job(processors, dimensions as usize, extents, weights, least);
-    put_planned(planned, plan)
+    code(calls::diagonal(job(processors, dimensions, extents, weights, least), plan))
 }
 
 // Who owns a position of the hypercube layout: the answer list gets the processor.
@@ -97,30 +87,15 @@ pub extern "C" fn multipartition_hypercube_owner(
 ) -> u64
     ensures { Linked (hypercube_owner_link processors position.now (length answer.old)) answer.old result answer.new }
 {
-    let owner = hypercube::hypercube_owner(processors, position);
-    match owner {
-        Owner::Processor(q) => link_lists::put_one(answer, q),
-        Owner::Refused { number, place } => { link_lists::joined(number, place) }
-    }
+    code(calls::hypercube_owner(processors, position, answer))
 }
 
 // Who owns a position: the answer list gets the processor.
 #[unsafe(no_mangle)]
-pub extern "C" fn multipartition_owner<'a>(
-    plan: &'a [u32],
-    position: &'a [u32],
-    answer: &mut [u32],
-) -> u64
+pub extern "C" fn multipartition_owner(plan: &[u32], position: &[u32], answer: &mut [u32]) -> u64
     ensures { Linked (owner_link plan.now position.now (length answer.old)) answer.old result answer.new }
 {
-    if plan.len() != link_lists::PLAN_LENGTH {
-        return 6;
-    }
-    let owner = link_lists::owner_in(plan, position);
-    match owner {
-        Owner::Processor(q) => link_lists::put_one(answer, q),
-        Owner::Refused { number, place } => link_lists::joined(number, place),
-    }
+    code(calls::owner(plan, position, answer))
 }
 
 // Who is the neighbour of a processor along a dimension, up unless `up` is 0: the answer list gets 1 and the processor, or 0 and 0 for nobody.
@@ -134,15 +109,7 @@ pub extern "C" fn multipartition_neighbour(
 ) -> u64
     ensures { Linked (neighbour_link plan.now processor dimension up (length answer.old)) answer.old result answer.new }
 {
-    if plan.len() != link_lists::PLAN_LENGTH {
-        return 6;
-    }
-    let neighbour = link_lists::neighbour_in(plan, processor, dimension as usize, up != 0);
-    match neighbour {
-        Neighbour::Processor(q) => link_lists::put_two(answer, 1, q),
-        Neighbour::Nobody => link_lists::put_two(answer, 0, 0),
-        Neighbour::Refused { number, place } => link_lists::joined(number, place),
-    }
+    code(calls::neighbour(plan, processor, dimension, up, answer))
 }
 
 // Which elements a slab holds: the answer list gets the first and the one after the last.
@@ -155,14 +122,7 @@ pub extern "C" fn multipartition_slab(
 ) -> u64
     ensures { Linked (slab_link plan.now dimension slab (length answer.old)) answer.old result answer.new }
 {
-    if plan.len() != link_lists::PLAN_LENGTH {
-        return 6;
-    }
-    let elements = slabs::slab_elements(link_lists::plan_in(plan), dimension as usize, slab);
-    match elements {
-        Elements::Range { first, after } => link_lists::put_two(answer, first, after),
-        Elements::Refused { number, place } => link_lists::joined(number, place),
-    }
+    code(calls::slab(plan, dimension, slab, answer))
 }
 
 // Which slab holds an element: the answer list gets the slab.
@@ -175,24 +135,7 @@ pub extern "C" fn multipartition_slab_of(
 ) -> u64
     ensures { Linked (slab_of_link plan.now dimension element (length answer.old)) answer.old result answer.new }
 {
-    if plan.len() != link_lists::PLAN_LENGTH {
-        return 6;
-    }
-    let slab = slabs::slab_of(link_lists::plan_in(plan), dimension as usize, element);
-    match slab {
-        SlabNumber::Slab(s) => link_lists::put_one(answer, s),
-        SlabNumber::Refused { number, place } => link_lists::joined(number, place),
-    }
-}
-
-// A place in 32 bits: a larger one is given as the largest.
-fn place_in_32(place: usize) -> u32
-    ensures { result ≡ min place 4294967295 }
-{
-    if place < 4294967295 {
-        return place as u32;
-    }
-    4294967295
+    code(calls::slab_of(plan, dimension, element, answer))
 }
 
 // Which slabs hold the elements of a rising list: they go to the front of the second list.
@@ -205,19 +148,7 @@ pub extern "C" fn multipartition_slabs_of(
 ) -> u64
     ensures { Linked (slabs_of_link plan.now dimension elements.now slabs.old) slabs.old result slabs.new }
 {
-    if plan.len() != link_lists::PLAN_LENGTH {
-        return 6;
-    }
-    let probed = probes::slabs_of(
-        link_lists::plan_in(plan),
-        dimension as usize,
-        elements,
-        slabs,
-    );
-    match probed {
-        Probed::Done => 0,
-        Probed::Refused { number, place } => link_lists::joined(number, place_in_32(place)),
-    }
+    code(calls::slabs_of(plan, dimension, elements, slabs))
 }
 
 // A page of a slab sheet: the list of bytes gets it.
@@ -231,20 +162,7 @@ pub extern "C" fn multipartition_slab_sheet(
 ) -> u64
     ensures { Linked (slab_sheet_link plan.now dimension page caption.now (length sheet.old)) sheet.old result sheet.new }
 {
-    if plan.len() != link_lists::PLAN_LENGTH {
-        return 6;
-    }
-    let written = sheet::slab_sheet(
-        link_lists::plan_in(plan),
-        dimension as usize,
-        page,
-        caption,
-        sheet,
-    );
-    match written {
-        Sheet::Written => 0,
-        Sheet::Refused { number, place } => link_lists::joined(number, place),
-    }
+    code(calls::slab_sheet(plan, dimension, page, caption, sheet))
 }
 
 // The number of the tile at a position: the answer list gets the number.
@@ -256,14 +174,7 @@ pub extern "C" fn multipartition_tile_number(
 ) -> u64
     ensures { Linked (tile_number_link plan.now position.now (length answer.old)) answer.old result answer.new }
 {
-    if plan.len() != link_lists::PLAN_LENGTH {
-        return 6;
-    }
-    let tile = link_lists::position_in(position).number(link_lists::plan_in(plan));
-    match tile {
-        TileNumber::Tile(t) => link_lists::put_one(answer, t),
-        TileNumber::Refused { number, place } => link_lists::joined(number, place),
-    }
+    code(calls::tile_number(plan, position, answer))
 }
 
 // The position of a tile: the answer list gets the coordinates.
@@ -271,16 +182,7 @@ pub extern "C" fn multipartition_tile_number(
 pub extern "C" fn multipartition_tile_position(plan: &[u32], tile: u32, answer: &mut [u32]) -> u64
     ensures { Linked (tile_position_link plan.now tile (length answer.old)) answer.old result answer.new }
 {
-    if plan.len() != link_lists::PLAN_LENGTH {
-        return 6;
-    }
-    let located = positions::position_of(link_lists::plan_in(plan), tile);
-    let lookup = located.lookup;
-    let position = located.position;
-    match lookup {
-        Lookup::Found => link_lists::put_position(answer, position),
-        Lookup::Refused { number, place } => link_lists::joined(number, place),
-    }
+    code(calls::tile_position(plan, tile, answer))
 }
 
 // The position one step on along a dimension, up unless `up` is 0: the answer list gets 1 and the coordinates, or zeros for the edge.
@@ -294,25 +196,7 @@ pub extern "C" fn multipartition_step(
 ) -> u64
     ensures { Linked (step_link plan.now position.now dimension up (length answer.old)) answer.old result answer.new }
 {
-    if plan.len() != link_lists::PLAN_LENGTH {
-        return 6;
-    }
-    let moved = link_lists::position_in(position).step(
-        link_lists::plan_in(plan),
-        dimension as usize,
-        up != 0,
-    );
-    let step = moved.step;
-    let next = moved.position;
-    let edge = Position {
-        d: position.len(),
-        at: [0; 5],
-    };
-    match step {
-        Step::Inside => link_lists::put_step(answer, 1, next),
-        Step::Edge => link_lists::put_step(answer, 0, edge),
-        Step::Refused { number, place } => link_lists::joined(number, place),
-    }
+    code(calls::step(plan, position, dimension, up, answer))
 }
 
 // What a processor does at a step of the sweep along a dimension, up unless `up` is 0: the answer list gets the slab visited, how many tiles it works
@@ -328,20 +212,7 @@ pub extern "C" fn multipartition_timetable(
 ) -> u64
     ensures { Linked (timetable_link plan.now dimension up step processor (length answer.old)) answer.old result answer.new }
 {
-    if plan.len() != link_lists::PLAN_LENGTH {
-        return 6;
-    }
-    let visited = timetable::visit_at(
-        link_lists::plan_in(plan),
-        dimension as usize,
-        up != 0,
-        step,
-        processor,
-    );
-    match visited {
-        Visited::At(visit) => link_lists::put_visit(answer, visit),
-        Visited::Refused { number, place } => link_lists::joined(number, place),
-    }
+    code(calls::timetable(plan, dimension, up, step, processor, answer))
 }
 
 // Which tiles each processor owns: the first list gets each processor's lowest tile, the second, for each tile, its owner's next higher one.
@@ -349,12 +220,5 @@ pub extern "C" fn multipartition_timetable(
 pub extern "C" fn multipartition_chains(plan: &[u32], heads: &mut [u32], nexts: &mut [u32]) -> u64
     ensures { Linked (chains_link plan.now (length heads.old) (length nexts.old)) (heads.old, nexts.old) result (heads.new, nexts.new) }
 {
-    if plan.len() != link_lists::PLAN_LENGTH {
-        return 6;
-    }
-    let chained = chains::chains(link_lists::plan_in(plan), heads, nexts);
-    match chained {
-        Chained::Done => 0,
-        Chained::Refused { number, place } => link_lists::joined(number, place),
-    }
+    code(calls::chains(plan, heads, nexts))
 }

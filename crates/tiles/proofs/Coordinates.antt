@@ -1,26 +1,20 @@
 -- Positions by value and the lists of their coordinates, read by places, counted from 0; and how a loop fills the five places.
-use mathlib.Core.Path.{◌≡◌, refl, sym, ap, ◌∙◌}
-use mathlib.Core.Bool.{Bool, true, false, ◌&&◌}
+use mathlib.Core.Path.{◌≡◌, refl, sym, ◌∙◌}
 use mathlib.Core.List.{List, [], ◌∷◌, ◌++◌}
 use Prim.Native.Nat.{ℕ, zero, suc, ◌<◌, ◌≤◌}
 use native.Mathlib.Nat.{le_refl, mul-le-mul_right}
 use native.Mathlib.Omega.{arith}
-use lib.Dec.{ltb, eqb}
-use lib.ListN.{length, get_or, drop, replicate, length-append, length-replicate}
-use lib.Seq.{length-take-le, take-append-le, get_or-take, sets}
-use borrow.Author.Tests.{eqb-true}
+use lib.ListN.{length, get_or, take, drop, replicate, length-append, length-replicate}
+use lib.Seq.{ext_get_or, length-take-le, take-append-le, get_or-take, sets}
 use Rattle.multipartition.specs.MixedRadix.{number_up}
-use Rattle.multipartition.specs.Lists.{all_below}
-use Rattle.multipartition.specs.Tiles.{Inside, is_inside}
+use Rattle.multipartition.specs.Tiles.{Inside}
 use Rattle.multipartition.proofs.MixedRadix.{number_up_below}
 use Rattle.multipartition.proofs.Tiles.{inside_of_below}
 use Rattle.layout.specs.declared.Plan.{Plan}
 use Rattle.layout.specs.Plans.{layout_of, five}
 use Rattle.layout.specs.Positions.{InGrid}
 use Rattle.layout.specs.Shaped.{Shaped}
-use Rattle.layout.proofs.Lists.{all-ext}
 use Rattle.layout.proofs.Places.{cuts_length, cut_at}
-use Rattle.layout.proofs.Positions.{inside_of-plan}
 use Rattle.layout.proofs.Plans.{take-five}
 use Rattle.tiles.specs.declared.positions.Position.{Position}
 use Rattle.tiles.specs.Positions.{coordinates, position_with}
@@ -32,6 +26,12 @@ unfolding coordinates
 length-coordinates position =
     length-take-le position.d (position.at ++ replicate position.d 0)
     (omega (arith, length-append position.at (replicate position.d 0), length-replicate {A = ℕ} position.d 0))
+
+-- the coordinates are the first d places
+pub coordinates_front : (position : Position) (d : ℕ) → position.d ≡ d → d ≤ length position.at → coordinates position ≡ take d position.at
+unfolding coordinates
+coordinates_front position d same few =
+    rw same (take-append-le d position.at (replicate d 0) few)
 
 zeros-at : (n k : ℕ) → get_or {A = ℕ} (replicate n 0) k 0 ≡ 0
 zeros-at zero k = refl
@@ -56,6 +56,12 @@ unfolding coordinates
 coordinates_with xs few =
     take-append-le (length xs) (five xs) (replicate (length xs) 0) (omega (arith, length-five xs)) ∙ take-five (length xs) xs few refl
 
+-- five places with the numbers of a list, zero past its end
+pub five_places : (at xs : List ℕ) → length at ≡ 5 → ((i : ℕ) → i < 5 → get_or at i 0 ≡ get_or xs i 0) → at ≡ five xs
+five_places at xs long same =
+    ext_get_or 0 at (five xs) (long ∙ sym (length-five xs))
+    (λ i l. same i (omega (arith, long)) ∙ sym (get_or-take 5 (xs ++ replicate 5 0) i 0 (omega (arith, long)) ∙ before_zeros xs 5 i))
+
 -- five numbers of a list, zero past its end
 pub five_numbers : (xs : List ℕ) → get_or xs 0 0 ∷ get_or xs 1 0 ∷ get_or xs 2 0 ∷ get_or xs 3 0 ∷ get_or xs 4 0 ∷ [] ≡ five xs
 five_numbers [] = refl
@@ -70,24 +76,15 @@ five_numbers (a ∷ b ∷ c ∷ d ∷ e ∷ more) = refl
 pub grid_d : (plan : Plan) (position : Position) → InGrid plan (coordinates position) → position.d ≡ plan.d
 grid_d plan position g = sym (length-coordinates position) ∙ g.coordinates
 
+-- the coordinates of a position of the grid are its first places
+pub grid_front : (plan : Plan) → Shaped plan → (position : Position) → InGrid plan (coordinates position) → length position.at ≡ 5
+    → take plan.d position.at ≡ coordinates position
+grid_front plan s position g five =
+    sym (coordinates_front position plan.d (grid_d plan position g) (omega (arith, five, s.d_high)))
+
 pub grid-at : (plan : Plan) (position : Position) → InGrid plan (coordinates position) → (k : ℕ) → k < plan.d
     → get_or (coordinates position) k 0 ≡ get_or position.at k 0
 grid-at plan position g k l = coordinate-at position k (omega (arith, grid_d plan position g))
-
--- the test of the grid, in the position's own places
-pub inside_by_places : (plan : Plan) → Shaped plan → (position : Position)
-    → (eqb position.d plan.d && all_below plan.d (λ k. ltb (get_or position.at k 0) (get_or plan.cuts k 0)))
-    ≡ is_inside (layout_of plan).cuts (coordinates position)
-inside_by_places plan s position =
-    sym (rw (inside_of-plan plan s (coordinates position), length-coordinates position) (go (eqb position.d plan.d) refl))
-  where
-    go : (t : Bool) → eqb position.d plan.d ≡ t
-        → (t && all_below plan.d (λ k. ltb (get_or (coordinates position) k 0) (get_or plan.cuts k 0)))
-        ≡ (t && all_below plan.d (λ k. ltb (get_or position.at k 0) (get_or plan.cuts k 0)))
-    go false e = refl
-    go true e =
-        all-ext plan.d _ _
-        (λ k l. ap (λ (i : ℕ). ltb i (get_or plan.cuts k 0)) (coordinate-at position k (omega (arith, eqb-true position.d plan.d e))))
 
 -- ---- five places, filled from the first number of a list on
 

@@ -1,3 +1,7 @@
 pub mod Numbering
+pub mod Along
+pub mod Asked
 pub mod Coordinates
+pub mod Inside
+pub mod Numbers
 pub mod Steps

@@ -1,69 +1,46 @@
 -- What the answers of the calls say in document 01's terms: for every case its refusal number and place, or its values.
-use Rattle.std.specs.Prelude.{◌≡◌, List, ℕ}
-use Rattle.std.proofs.Math.Option.{Option, none, some}
-use Rattle.multipartition.specs.Answers.{Answer, answered, refused}
+use Rattle.std.specs.Prelude.{◌≡◌, List, ℕ, Option, None, Some, Result}
+use Rattle.std.proofs.Math.Option as maths
+use Rattle.multipartition.specs.Answers.{Answer, answered, refused, checked}
+use Rattle.multipartition.specs.Questions.{extent_of, cut_of}
+use Rattle.layout.specs.declared.Plan.{Plan}
+use Rattle.layout.specs.Plans.{layout_of}
+use Rattle.layout.specs.Checked.{axis_checks}
+use Rattle.refusals.specs.declared.Refusal.{Refusal}
+use Rattle.refusals.specs.Told.{told_by, maybe}
 use Rattle.tiles.specs.declared.positions.Position.{Position}
-use Rattle.tiles.specs.declared.positions.TileNumber.{TileNumber}
-use Rattle.tiles.specs.declared.positions.Step.{Step}
-use Rattle.tiles.specs.declared.positions.Moved.{Moved}
-use Rattle.tiles.specs.declared.positions.Lookup.{Lookup}
-use Rattle.tiles.specs.declared.positions.Located.{Located}
-use Rattle.tiles.specs.declared.slabs.Elements.{Elements}
-use Rattle.tiles.specs.declared.slabs.SlabNumber.{SlabNumber}
-use Rattle.tiles.specs.Positions.{coordinates, position_with, nowhere}
-use Rattle.tiles.specs.declared.positions.TileNumber.TheVariants as T
-use Rattle.tiles.specs.declared.positions.Step.TheVariants as P
-use Rattle.tiles.specs.declared.positions.Lookup.TheVariants as L
-use Rattle.tiles.specs.declared.slabs.Elements.TheVariants as E
-use Rattle.tiles.specs.declared.slabs.SlabNumber.TheVariants as S
+use Rattle.tiles.specs.Positions.{coordinates, position_with}
 
 -- ---- positions
 
--- a tile's number
-abbrev pub told_number : TileNumber → Answer ℕ
-told_number (T.Tile tile) = answered tile
-told_number (T.Refused number place) = refused number place
+-- the coordinates one step on; none is "edge"
+abbrev pub moved_to : Option Position → maths.Option (List ℕ)
+moved_to None = maths.none
+moved_to (Some position) = maths.some (coordinates position)
 
--- a step to the position with these coordinates; none is "edge"
-abbrev pub told_step : Step → List ℕ → Answer (Option (List ℕ))
-told_step P.Inside coordinates = answered (some coordinates)
-told_step P.Edge coordinates = answered none
-told_step (P.Refused number place) coordinates = refused number place
+-- the position in the answer to a step
+abbrev pub stepped_to : Answer (maths.Option (List ℕ)) → Answer (maths.Option Position)
+stepped_to (answered maths.none) = answered maths.none
+stepped_to (answered (maths.some coordinates)) = answered (maths.some (position_with coordinates))
+stepped_to (refused number place) = refused number place
 
--- the position in the answer to a step: "every other part of the answer is zero"
-abbrev pub stepped_to : Answer (Option (List ℕ)) → Position
-stepped_to (answered (some coordinates)) = position_with coordinates
-stepped_to (answered none) = nowhere
-stepped_to (refused number place) = nowhere
-
--- a moved position that answers so, in every part
-pub record Moves (answer : Answer (Option (List ℕ))) (moved : Moved) : Type 0 where
-  pub told : told_step moved.step (coordinates moved.position) ≡ answer
-  pub held : moved.position ≡ stepped_to answer
-
--- the tile found at the position with these coordinates
-abbrev pub told_lookup : Lookup → List ℕ → Answer (List ℕ)
-told_lookup L.Found coordinates = answered coordinates
-told_lookup (L.Refused number place) coordinates = refused number place
+-- a step that answers so, with a position that is zero past its coordinates
+pub record Moves (answer : Answer (maths.Option (List ℕ))) (result : Result (Option Position) Refusal) : Type 0 where
+  pub told : told_by moved_to result ≡ answer
+  pub held : told_by maybe result ≡ stepped_to answer
 
 -- the position in the answer to a tile number
-abbrev pub found_at : Answer (List ℕ) → Position
-found_at (answered coordinates) = position_with coordinates
-found_at (refused number place) = nowhere
+abbrev pub found_at : Answer (List ℕ) → Answer Position
+found_at (answered coordinates) = answered (position_with coordinates)
+found_at (refused number place) = refused number place
 
--- a located tile that answers so, in every part
-pub record Locates (answer : Answer (List ℕ)) (located : Located) : Type 0 where
-  pub told : told_lookup located.lookup (coordinates located.position) ≡ answer
-  pub held : located.position ≡ found_at answer
+-- a look-up that answers so, with a position that is zero past its coordinates
+pub record Locates (answer : Answer (List ℕ)) (result : Result Position Refusal) : Type 0 where
+  pub told : told_by coordinates result ≡ answer
+  pub held : told_by (λ position. position) result ≡ found_at answer
 
 -- ---- slabs
 
--- the first element of a slab and the element after its last
-abbrev pub told_elements : Elements → Answer (ℕ × ℕ)
-told_elements (E.Range first after) = answered (first, after)
-told_elements (E.Refused number place) = refused number place
-
--- the slab of an element
-abbrev pub told_slab : SlabNumber → Answer ℕ
-told_slab (S.Slab slab) = answered slab
-told_slab (S.Refused number place) = refused number place
+-- the extent of a dimension and its cut, after the lines 6 and 7
+abbrev pub slabs_answer : Plan → ℕ → Answer (ℕ × ℕ)
+slabs_answer plan k = checked (axis_checks plan k) (answered (extent_of (layout_of plan) k, cut_of (layout_of plan) k))

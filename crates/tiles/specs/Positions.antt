@@ -10,7 +10,3 @@ coordinates position = take position.d (position.at ++ replicate position.d 0)
 -- the position with these coordinates, zero past them
 abbrev pub position_with : List ℕ → Position
 position_with coordinates = record { d = length coordinates; at = five coordinates }
-
--- "every other part of the answer is zero"
-abbrev pub nowhere : Position
-nowhere = record { d = 0; at = replicate 5 0 }

@@ -1,136 +1,122 @@
-// The elements of a slab, and the slab of an element. Dimensions are numbered from 1.
-ghost use Rattle.std.specs.Prelude.{◌≡◌, ◌+◌, ◌<◌, ◌≤◌};
-ghost use Rattle.multipartition.specs.Slabs.{slab_start, thickness, slab_of};
+// The elements of a slab, and the slab of an element. Dimensions are numbered from 1, slabs and elements from 0.
+ghost use Rattle.std.specs.Prelude.{◌≡◌, ◌<◌, ◌≤◌, get_or};
+ghost use Rattle.multipartition.specs.Slabs.{slab_start, slab_end, thickness, slab_of};
 ghost use Rattle.multipartition.specs.Questions.{slab_answer, slab_of_answer};
+ghost use Rattle.refusals.specs.Told.{told, told_by};
 ghost use Rattle.layout.specs.Plans.{layout_of};
-ghost use Rattle.layout.specs.Shaped.{Shaped};
-ghost use Rattle.tiles.specs.Answers.{told_elements, told_slab};
+ghost use Rattle.tiles.specs.Answers.{slabs_answer};
 
-use crate::dimensions::has_dimension;
-use layout::Plan;
-
-#[derive(Clone, Copy)]
-pub enum Elements {
-    // from `first` up to but not including `after`
-    Range { first: u32, after: u32 },
-    Refused { number: u32, place: u32 },
-}
-
-#[derive(Clone, Copy)]
-pub enum SlabNumber {
-    Slab(u32),
-    Refused { number: u32, place: u32 },
-}
+pub use crate::cut::Slabs;
+use layout::{Axis, Plan};
+use refusals::Refusal;
+use std::ops::Range;
 
 // The first element of slab s of n elements in b slabs: the first n % b slabs have one element more than the others. s * (n / b) is at most n.
+// Public and of plain numbers: it asks less than a value of `Slabs` does.
+#[tactic(auto, unfolding(multipartition::specs::Slabs::slab_start))]
 pub fn start(n: u32, b: u32, s: u32) -> u32
     requires { (n ≤ 1000000) × (1 ≤ b) × (b ≤ 4096) × (s ≤ b) }
     ensures { result ≡ slab_start n b s }
 {
-    let more = n % b;
-    let least = s * (n / b);
-    if s < more {
-        return least + s;
-    }
-    least + more
+    s * (n / b) + s.min(n % b)
 }
 
-// The number of elements of slab s of n elements in b slabs.
+// The number of elements of slab s of n elements in b slabs. Public and of plain numbers, likewise.
+#[tactic(auto, using(multipartition::proofs::Slabs::slab_end_is))]
 pub fn thickness(n: u32, b: u32, s: u32) -> u32
     requires { (n ≤ 1000000) × (1 ≤ b) }
     ensures { result ≡ thickness n b s }
 {
-    let thin = n / b;
-    if s < n % b {
-        return thin + 1;
-    }
-    thin
+    n / b + u32::from(s < n % b)
 }
 
-// The slab of an element of n elements in b slabs: among the first n % b slabs, or behind them.
-fn holding(n: u32, b: u32, element: u32) -> u32
-    requires { (n ≤ 1000000) × (1 ≤ b) × (b ≤ 4096) × (b ≤ n) × (element < n) }
-    ensures { result ≡ slab_of n b element }
-{
-    let thin = n / b;
-    let thick = thin + 1;
-    let more = n % b;
-    let behind = more * thick;
-    if element < behind {
-        return element / thick;
+impl Slabs {
+    // The slabs of a dimension of a plan, or the refusals 6 and 7. Nothing of the plan is copied.
+    pub fn of(plan: &Plan, dimension: usize) -> Result<Slabs, Refusal>
+        ensures { told_by (λ slabs. (slabs.extent, slabs.cut)) result ≡ slabs_answer plan.now dimension }
+    {
+        let lent = plan.lent()?;
+        if !lent.plan.has_dimension(dimension) {
+            return Err(Refusal::Dimension);
+        }
+        let k = dimension - 1;
+        Ok(Slabs {
+            extent: lent.plan.extents[k],
+            cut: lent.plan.cuts[k],
+        })
     }
-    more + (element - behind) / thin
-}
 
-// The elements of a slab along place k.
-fn range_of(plan: Plan, k: usize, slab: u32) -> Elements
-    requires { (Shaped plan) × (k < plan.d) }
-    ensures { told_elements result ≡ slab_answer (layout_of plan) (k + 1) slab }
-{
-    let n = plan.extents[k];
-    let b = plan.cuts[k];
-    if b <= slab {
-        return Elements::Refused {
-            number: 8,
-            place: 0,
-        };
+    // The slabs of a dimension of a plan in shape.
+    pub fn along(axis: Axis) -> Slabs
+        ensures extent { result.extent ≡ get_or axis.shaped.plan.extents axis.k 0 }
+        ensures cut { result.cut ≡ get_or axis.shaped.plan.cuts axis.k 0 }
+    {
+        Slabs {
+            extent: axis.extent(),
+            cut: axis.cut(),
+        }
     }
-    Elements::Range {
-        first: start(n, b, slab),
-        after: start(n, b, slab + 1),
+
+    // The first element of slab s.
+    pub fn start(self, s: u32) -> u32
+        requires { s ≤ self.cut }
+        ensures { result ≡ slab_start self.extent self.cut s }
+    {
+        start(self.extent, self.cut, s)
+    }
+
+    // The number of elements of slab s.
+    pub fn thickness(self, s: u32) -> u32
+        ensures { result ≡ thickness self.extent self.cut s }
+    {
+        thickness(self.extent, self.cut, s)
+    }
+
+    // The elements of slab s.
+    pub fn elements(self, s: u32) -> Range<u32>
+        requires { s < self.cut }
+        ensures start { result.start ≡ slab_start self.extent self.cut s }
+        ensures end { result.end ≡ slab_end self.extent self.cut s }
+    {
+        self.start(s)..self.start(s + 1)
+    }
+
+    // The slab of an element: among the first extent % cut slabs, or behind them.
+    #[tactic(auto, using(multipartition::proofs::Slabs::slab_of_thick, multipartition::proofs::Slabs::slab_of_thin))]
+    pub fn holding(self, element: u32) -> u32
+        requires { element < self.extent }
+        ensures { result ≡ slab_of self.extent self.cut element }
+    {
+        let thin = self.extent / self.cut;
+        let thick = thin + 1;
+        let more = self.extent % self.cut;
+        let behind = more * thick;
+        if element < behind {
+            element / thick
+        } else {
+            more + (element - behind) / thin
+        }
     }
 }
 
 // The elements of a slab of a dimension.
-pub fn slab_elements(plan: Plan, dimension: usize, slab: u32) -> Elements
-    ensures { told_elements result ≡ slab_answer (layout_of plan) dimension slab }
+pub fn slab_elements(plan: Plan, dimension: usize, slab: u32) -> Result<Range<u32>, Refusal>
+    ensures { told_by (λ elements. (elements.start, elements.end)) result ≡ slab_answer (layout_of plan) dimension slab }
 {
-    if !layout::in_shape(plan) {
-        return Elements::Refused {
-            number: 6,
-            place: 0,
-        };
+    let slabs = Slabs::of(&plan, dimension)?;
+    if slabs.cut <= slab {
+        return Err(Refusal::Range);
     }
-    if !has_dimension(plan, dimension) {
-        return Elements::Refused {
-            number: 7,
-            place: 0,
-        };
-    }
-    range_of(plan, dimension - 1, slab)
-}
-
-// The slab of an element along place k.
-fn slab_holding(plan: Plan, k: usize, element: u32) -> SlabNumber
-    requires { (Shaped plan) × (k < plan.d) }
-    ensures { told_slab result ≡ slab_of_answer (layout_of plan) (k + 1) element }
-{
-    let n = plan.extents[k];
-    let b = plan.cuts[k];
-    if n <= element {
-        return SlabNumber::Refused {
-            number: 8,
-            place: 0,
-        };
-    }
-    SlabNumber::Slab(holding(n, b, element))
+    Ok(slabs.elements(slab))
 }
 
 // The slab that holds an element of a dimension.
-pub fn slab_of(plan: Plan, dimension: usize, element: u32) -> SlabNumber
-    ensures { told_slab result ≡ slab_of_answer (layout_of plan) dimension element }
+pub fn slab_of(plan: Plan, dimension: usize, element: u32) -> Result<u32, Refusal>
+    ensures { told result ≡ slab_of_answer (layout_of plan) dimension element }
 {
-    if !layout::in_shape(plan) {
-        return SlabNumber::Refused {
-            number: 6,
-            place: 0,
-        };
+    let slabs = Slabs::of(&plan, dimension)?;
+    if slabs.extent <= element {
+        return Err(Refusal::Range);
     }
-    if !has_dimension(plan, dimension) {
-        return SlabNumber::Refused {
-            number: 7,
-            place: 0,
-        };
-    }
-    slab_holding(plan, dimension - 1, element)
+    Ok(slabs.holding(element))
 }

@@ -1,6 +1,6 @@
 -- Plans by value: what the functions of the timetable need of their lists. A grid that is flat in some dimensions is a plan in shape, and so is the
 -- plan with one element in every slab; the lines of the flat grid have the processor's faces, and those of the other its tiles.
-use mathlib.Core.Path.{◌≡◌, refl, sym, ap, ap₂, ◌∙◌, subst, subst⁻¹}
+use mathlib.Core.Path.{◌≡◌, sym, ap, ap₂, ◌∙◌, subst, subst⁻¹}
 use mathlib.Core.Logic.{◌≢◌}
 use mathlib.Core.List.{List}
 use Prim.Native.Nat.{ℕ, ◌+◌, ◌-◌, ◌*◌, ◌≤◌, ◌<◌}
@@ -9,6 +9,8 @@ use native.Mathlib.Decide.{ℕ_discrete}
 use native.Mathlib.Omega.{arith}
 use lib.ListN.{length, get_or, set, take, replicate, length-set, get_or-replicate}
 use lib.Seq.{get_or-take, take-set-lt, length-take-le, get_or-set_same, get_or-set_other}
+use Rattle.std.specs.List.{All}
+use Rattle.std.proofs.lemmas.List.Elements.{All-from_get_or}
 use Rattle.numbers.specs.Products.{product, without}
 use Rattle.numbers.specs.Sums.{sum}
 use Rattle.numbers.proofs.Products.{product-without}
@@ -24,7 +26,7 @@ use Rattle.layout.proofs.Places.{extents_length, cuts_length, extent-at, cut_at}
 use Rattle.layout.proofs.Shaped.{in_shape_of_shaped}
 use Rattle.timetable.specs.Faces.{faces_held}
 use Rattle.timetable.specs.Timetable.{other_extents}
-use Rattle.timetable.specs.Rows.{places_of, elements_of, RowTable, line_in, slab_line, ExtentRange, SlabAsked, flattened, one_each}
+use Rattle.timetable.specs.Rows.{places_of, elements_of, RowTable, line_in, slab_line, flattened, one_each}
 use Rattle.timetable.proofs.Faces.{Cut, held_faces-add_up}
 use Rattle.timetable.proofs.Rows.{flat, product-set, places_inside}
 use Rattle.timetable.proofs.Steps.{faces_of_lines}
@@ -53,6 +55,12 @@ product-flat-le d xs k l long low =
     (subst (λ (n : ℕ). n ≤ get_or (take d xs) k 0 * product (without k (take d xs))) (one-mul (product (without k (take d xs))))
     (mul-le-mul_right (product (without k (take d xs))) (subst⁻¹ (λ (n : ℕ). 1 ≤ n) (get_or-take d xs k 0 l) low)))
 
+-- the first d numbers, none of them 0
+pub front_positive : (d : ℕ) (xs : List ℕ) → d ≤ length xs → ((i : ℕ) → i < d → 1 ≤ get_or xs i 0) → All (λ n. 1 ≤ n) (take d xs)
+front_positive d xs long low =
+    All-from_get_or (λ n. 1 ≤ n) (take d xs) 0
+    (λ i l. let m : i < d = subst (λ (n : ℕ). i < n) (length-take-le d xs long) l in subst⁻¹ (λ (n : ℕ). 1 ≤ n) (get_or-take d xs i 0 m) (low i m))
+
 module _ (plan : Plan) (k : ℕ) (s : Shaped plan) (lk : k < plan.d) where
   in_extents : k < length plan.extents
   in_extents = omega (arith, s.extents_long)
@@ -72,9 +80,9 @@ module _ (plan : Plan) (k : ℕ) (s : Shaped plan) (lk : k < plan.d) where
   extents-one_long : plan.d ≤ length (set plan.extents k 1)
   extents-one_long = subst⁻¹ (λ (n : ℕ). plan.d ≤ n) (length-set plan.extents k 1) s.extents_long
 
-  -- the other extents
-  pub numbers-flat : ExtentRange plan.d (set plan.extents k 1)
-  numbers-flat = record { few = s.d_high; long = extents-one_long; low = extent-one_low; high = extent-one_high }
+  -- the other extents, of which none is 0
+  pub others_positive : All (λ extent. 1 ≤ extent) (take plan.d (set plan.extents k 1))
+  others_positive = front_positive plan.d (set plan.extents k 1) extents-one_long extent-one_low
 
   pub other_extents-flat : product (take plan.d (set plan.extents k 1)) ≡ other_extents (layout_of plan) (k + 1)
   unfolding layout_of
@@ -190,7 +198,7 @@ module _ (plan : Plan) (s : Shaped plan) where
   line_inside r = places_inside (layout_of plan).cuts r (positive_of_places (layout_of plan).cuts (λ i l. (layout_cut i l).0))
 
   -- no processor has more than all faces
-  plan_faces_fit : (k v q : ℕ) → k < plan.d → v < get_or plan.cuts k 0 → q < plan.p
+  pub plan_faces_fit : (k v q : ℕ) → k < plan.d → v < get_or plan.cuts k 0 → q < plan.p
       → faces_held (layout_of plan).extents (layout_of plan).cuts (owner_by (layout_of plan)) k v q ≤ other_extents (layout_of plan) (k + 1)
   unfolding layout_of
   plan_faces_fit k v q lk lv lq =
@@ -266,21 +274,11 @@ module _ (plan : Plan) (s : Shaped plan) (k j c v q : ℕ) (lk : k < plan.d) (lj
           ∙ ap₂ (λ (extents cuts : List ℕ). sum (product cuts)
           (line_in extents cuts (layout_of plan).moduli (layout_of plan).matrix c (get_or grid.extents c 0) (get_or grid.cuts c 0) table k v)) extents_are cuts_are
 
-  -- and their sum fits
-  pub slab_asked : other_extents (layout_of plan) (k + 1) ≤ 4294967295
-      → SlabAsked grid (flattened c grid) c k v table (sum (product (layout_of (flattened c grid)).cuts) (slab_line grid (flattened c grid) c k v table))
-  unfolding flattened
-  slab_asked fits = record {
-    shape = twice;
-    flat_shape = shaped-flat grid c twice (in_grid_lem c lc);
-    same_d = refl;
-    along = in_grid_lem c lc;
-    dimension = in_grid_lem k lk;
-    slab_small = omega (arith, s.cut_high k lk);
-    places = w.places;
+  -- the flat grid is no larger than a slab
+  module _ (fits : other_extents (layout_of plan) (k + 1) ≤ 4294967295) where
+    pub volume_fits : product (take (flattened c grid).d (flattened c grid).extents) ≤ 4294967295
+    unfolding flattened
     volume_fits =
         le_trans (volume-flat-le grid c twice (in_grid_lem c lc))
         (le_trans (volume-flat-le (flattened k plan) j once (flat_d plan k j lj))
-        (subst⁻¹ (λ (n : ℕ). n ≤ 4294967295) (other_extents-flat plan k s lk) fits));
-    fits = subst (λ (n : ℕ). n ≤ 4294967295) slab_lines (le_trans (plan_faces_fit plan s k v q lk lv lq) fits);
-  }
+        (subst⁻¹ (λ (n : ℕ). n ≤ 4294967295) (other_extents-flat plan k s lk) fits))

@@ -6,7 +6,7 @@ use Prim.Native.Nat.{ℕ, ◌+◌, ◌*◌, ◌≤◌, ◌<◌}
 use native.Mathlib.Nat.{le_trans, mul-le-mul_right, one-mul}
 use native.Mathlib.Decide.{ℕ_discrete}
 use native.Mathlib.Omega.{arith}
-use lib.ListN.{length, get_or, set, take}
+use lib.ListN.{length, get_or, set, take, get_or-map}
 use lib.Seq.{get_or-take, take-take, take-set-lt, take-length, length-take-le, get_or-set_same, get_or-set_other, ext_get_or}
 use Rattle.numbers.specs.Products.{product}
 use Rattle.numbers.specs.Sums.{sum}
@@ -25,7 +25,8 @@ use Rattle.walks.specs.declared.Coordinated.{Coordinated}
 use Rattle.walks.specs.declared.Stride.{Stride}
 use Rattle.walks.specs.Walks.{Strides, Steps}
 use Rattle.timetable.specs.Faces.{thicknesses}
-use Rattle.timetable.specs.Rows.{places_of, steps_on, line_of, slab_line, HasPlaces, BelowCuts, LineAsked, SlabAsked, one_each}
+use Rattle.timetable.specs.declared.slab_faces.Tally.{Tally}
+use Rattle.timetable.specs.Rows.{places_of, steps_on, line_of, slab_line, HasPlaces, BelowCuts, LineAsked, one_each, elements_in, tiles_in, no_tally, plus, thick, Fits, line_tally, tally_of_line, tally_of_lines}
 use Rattle.timetable.proofs.Grids.{shaped-one_each, layout_cut, same_lengths, line_inside}
 use Rattle.timetable.proofs.Rows.{length-thicknesses, length_places}
 use Rattle.timetable.proofs.Walks.{Walk, walk_more}
@@ -95,42 +96,68 @@ count_more grid c table o t l =
     (ap (λ (n : ℕ). n * get_or table (steps_on (layout_of grid).moduli (layout_of grid).matrix c true t o) 0) (thickness_of-one (get_or grid.cuts c 0) t l)
     ∙ one-mul (get_or table (steps_on (layout_of grid).moduli (layout_of grid).matrix c true t o) 0))
 
--- the walk along a line with the sums of its first t slabs
-pub record Walked (grid : Plan) (c : ℕ) (elements counts : List ℕ) (o t : ℕ) (at : Coordinated) (faces tiles : ℕ) : Type 0 where
+-- the columns of one of a table's tallies
+element-at : (table : List Tally) (o : ℕ) → get_or (elements_in table) o 0 ≡ (get_or table o no_tally).elements
+element-at table o = get_or-map (λ tally. tally.elements) table o no_tally
+
+tile-at : (table : List Tally) (o : ℕ) → get_or (tiles_in table) o 0 ≡ (get_or table o no_tally).tiles
+tile-at table o = get_or-map (λ tally. tally.tiles) table o no_tally
+
+-- the walk along a line with the tally of its first t slabs
+pub record Walked (grid : Plan) (c : ℕ) (table : List Tally) (o t : ℕ) (at : Coordinated) (tally : Tally) : Type 0 where
   pub walk : Walk grid c true o t at
-  pub faces_are : faces ≡ line_of grid c elements t o
-  pub tiles_are : tiles ≡ line_of (one_each grid) c counts t o
+  pub tally_is : tally ≡ line_tally grid c table t o
 
-pub walked_none : (grid : Plan) (c : ℕ) (elements counts : List ℕ) (o : ℕ) (from : Coordinated) → Walk grid c true o 0 from
-    → Walked grid c elements counts o 0 from 0 0
+pub walked_none : (grid : Plan) (c : ℕ) (table : List Tally) (o : ℕ) (from : Coordinated) (tally : Tally) → tally ≡ no_tally → Walk grid c true o 0 from
+    → Walked grid c table o 0 from tally
 unfolding sum
-walked_none grid c elements counts o from w = record { walk = w; faces_are = refl; tiles_are = refl }
+walked_none grid c table o from tally e w = record { walk = w; tally_is = e }
 
-module _ (grid : Plan) (s : Shaped grid) (c : ℕ) (lc : c < grid.d) (elements counts : List ℕ) (o t : ℕ) (l : t < get_or grid.cuts c 0)
-    (at : Coordinated) (faces tiles : ℕ) (w : Walked grid c elements counts o t at faces tiles)
-    (side : ℕ) (e : side ≡ thickness (get_or grid.extents c 0) (get_or grid.cuts c 0) t) where
-  faces_more : faces + side * get_or elements at.number 0 ≡ line_of grid c elements (t + 1) o
-  faces_more =
-      ap₂ (λ (m n : ℕ). faces + m * get_or elements n 0) e w.walk.stands.number_is
-      ∙ ap (λ (m : ℕ). m + thickness (get_or grid.extents c 0) (get_or grid.cuts c 0) t * get_or elements (steps_on (layout_of grid).moduli (layout_of grid).matrix c true t o) 0) w.faces_are
-      ∙ sym (line_more grid c elements o t)
+-- one turn: n elements in b slabs along the line, the thickness of slab t, and what the row has, so thick
+module _ (grid : Plan) (s : Shaped grid) (c : ℕ) (lc : c < grid.d) (table : List Tally) (o t : ℕ) (at : Coordinated) (tally : Tally)
+    (w : Walked grid c table o t at tally) (n b : ℕ) (en : n ≡ get_or grid.extents c 0) (eb : b ≡ get_or grid.cuts c 0) (l : t < b)
+    (side : ℕ) (e : side ≡ thickness n b t) where
+  abbrev row : Tally
+  row = get_or table at.number no_tally
 
-  tiles_more : tiles + get_or counts at.number 0 ≡ line_of (one_each grid) c counts (t + 1) o
-  tiles_more = ap₂ (λ (m n : ℕ). m + get_or counts n 0) w.tiles_are w.walk.stands.number_is ∙ sym (count_more grid c counts o t l)
+  below : t < get_or grid.cuts c 0
+  below = subst (λ (m : ℕ). t < m) eb l
 
-  pub walked_faces_fit : line_of grid c elements (get_or grid.cuts c 0) o ≤ 4294967295 → faces + side * get_or elements at.number 0 ≤ 4294967295
-  walked_faces_fit fits = subst⁻¹ (λ (n : ℕ). n ≤ 4294967295) faces_more (le_trans (line_within grid c elements o t l) fits)
+  elements_more : tally.elements + side * row.elements ≡ line_of grid c (elements_in table) (t + 1) o
+  elements_more =
+      ap (λ (n : ℕ). tally.elements + side * n) (sym (element-at table at.number))
+      ∙ ap₂ (λ (m n : ℕ). tally.elements + m * get_or (elements_in table) n 0) (e ∙ ap₂ (λ (m n : ℕ). thickness m n t) en eb) w.walk.stands.number_is
+      ∙ ap (λ (a : Tally). a.elements + thickness (get_or grid.extents c 0) (get_or grid.cuts c 0) t * get_or (elements_in table) (steps_on (layout_of grid).moduli (layout_of grid).matrix c true t o) 0) w.tally_is
+      ∙ sym (line_more grid c (elements_in table) o t)
 
-  pub walked_tiles_fit : line_of (one_each grid) c counts (get_or grid.cuts c 0) o ≤ 4294967295 → tiles + get_or counts at.number 0 ≤ 4294967295
-  unfolding one_each
-  walked_tiles_fit fits = subst⁻¹ (λ (n : ℕ). n ≤ 4294967295) tiles_more (le_trans (line_within (one_each grid) c counts o t l) fits)
+  tiles_more : tally.tiles + row.tiles ≡ line_of (one_each grid) c (tiles_in table) (t + 1) o
+  tiles_more =
+      ap (λ (n : ℕ). tally.tiles + n) (sym (tile-at table at.number))
+      ∙ ap₂ (λ (m n : ℕ). m + get_or (tiles_in table) n 0) (ap (λ (a : Tally). a.tiles) w.tally_is) w.walk.stands.number_is
+      ∙ sym (count_more grid c (tiles_in table) o t below)
 
-  pub walked_more : (up : Stride) (to : Coordinated) → Strides grid c true up → Steps up at to
-      → Walked grid c elements counts o (t + 1) to (faces + side * get_or elements at.number 0) (tiles + get_or counts at.number 0)
-  walked_more up to strides steps = record {
+  more_is : plus tally (thick side row) ≡ line_tally grid c table (t + 1) o
+  more_is = ap₂ (λ (m n : ℕ). record { elements = m; tiles = n }) elements_more tiles_more
+
+  module _ (fits : Fits (line_tally grid c table (get_or grid.cuts c 0) o)) where
+    more_fits : Fits (line_tally grid c table (t + 1) o)
+    unfolding one_each
+    more_fits = record {
+      elements = le_trans (line_within grid c (elements_in table) o t below) fits.elements;
+      tiles = le_trans (line_within (one_each grid) c (tiles_in table) o t below) fits.tiles;
+    }
+
+    pub row_fits : Fits (thick side row)
+    row_fits = record { elements = omega (arith, elements_more, more_fits.elements); tiles = omega (arith, tiles_more, more_fits.tiles) }
+
+    pub sum_fits : (term : Tally) → term ≡ thick side row → Fits (plus tally term)
+    sum_fits term et = subst⁻¹ Fits (ap (plus tally) et ∙ more_is) more_fits
+
+  pub walked_more : (term next : Tally) → term ≡ thick side row → next ≡ plus tally term → (up : Stride) (to : Coordinated) → Strides grid c true up → Steps up at to
+      → Walked grid c table o (t + 1) to next
+  walked_more term next et en up to strides steps = record {
     walk = walk_more grid s c lc true o t at w.walk up to strides steps;
-    faces_are = faces_more;
-    tiles_are = tiles_more;
+    tally_is = en ∙ ap (plus tally) et ∙ more_is;
   }
 
 -- ---- the first tile of a line, in five places
@@ -178,14 +205,9 @@ module _ (flat : Plan) (s : Shaped flat) (r : ℕ) (at : List ℕ) (long : lengt
           (el ∙ ap (line_of grid c table (get_or grid.cuts c 0)) owner_is)
 
       -- the line is at most its faces, as a volume is not 0
-      pub line_asked : (table : List ℕ) → SlabAsked grid flat c k v table (slab_line grid flat c k v table r) → o < grid.p → LineAsked grid c table o
-      line_asked table asked lo = record {
-        shape = asked.shape;
-        along = asked.along;
-        processor = lo;
-        places = asked.places;
-        fits = le_trans (subst (λ (n : ℕ). n ≤ volume * line) (one-mul line) (mul-le-mul_right line low)) (subst⁻¹ (λ (n : ℕ). n ≤ 4294967295) whole asked.fits);
-      }
+      pub line_fits : (table : List ℕ) → slab_line grid flat c k v table r ≤ 4294967295 → line_of grid c table (get_or grid.cuts c 0) o ≤ 4294967295
+      line_fits table fits =
+          le_trans (subst (λ (n : ℕ). n ≤ volume * line) (one-mul line) (mul-le-mul_right line low)) (subst⁻¹ (λ (n : ℕ). n ≤ 4294967295) whole fits)
         where
           line : ℕ
           line = line_of grid c table (get_or grid.cuts c 0) o
@@ -199,34 +221,57 @@ module _ (flat : Plan) (s : Shaped flat) (r : ℕ) (at : List ℕ) (long : lengt
           whole : volume * line ≡ slab_line grid flat c k v table r
           whole = ap (λ (n : ℕ). volume * line_of grid c table (get_or grid.cuts c 0) n) owner_is
 
--- with one element in every slab a line is its tiles
+-- the same with one element in every slab, where a line is its tiles, and of a tally
 module _ (flat : Plan) (s : Shaped flat) (r : ℕ) (at : List ℕ) (long : length at ≡ 5) (placed : HasPlaces flat r at) (k v : ℕ)
     (grid : Plan) (same_d : flat.d ≡ grid.d) (lk : k < grid.d) (c o : ℕ)
-    (owns : o ≡ owner_at (layout_of grid).moduli (layout_of grid).matrix (take grid.d (set at k v))) (table : List ℕ) where
-  pub count_is : (line : ℕ) → line ≡ line_of (one_each grid) c table (get_or grid.cuts c 0) o → line ≡ slab_line (one_each grid) (one_each flat) c k v table r
+    (owns : o ≡ owner_at (layout_of grid).moduli (layout_of grid).matrix (take grid.d (set at k v))) where
+  count_is : (table : List ℕ) → line_of (one_each grid) c table (get_or grid.cuts c 0) o ≡ slab_line (one_each grid) (one_each flat) c k v table r
   unfolding one_each layout_of
-  count_is line e =
-      sym (one-mul line)
-      ∙ line_is (one_each flat) (shaped-one_each flat s) r at long placed k v (one_each grid) same_d lk c o owns table 1 line
+  count_is table =
+      sym (one-mul _)
+      ∙ line_is (one_each flat) (shaped-one_each flat s) r at long placed k v (one_each grid) same_d lk c o owns table 1 _
       (sym (volume_of-ones (layout_of flat).cuts (take flat.d at)
-      (subst⁻¹ (Inside (layout_of flat).cuts) (first_is flat s r at long placed) (line_inside flat s r)))) e
+      (subst⁻¹ (Inside (layout_of flat).cuts) (first_is flat s r at long placed) (line_inside flat s r)))) refl
 
-  pub count_asked : SlabAsked (one_each grid) (one_each flat) c k v table (slab_line (one_each grid) (one_each flat) c k v table r) → o < grid.p
-      → LineAsked (one_each grid) c table o
-  unfolding one_each layout_of
-  count_asked asked lo = line_asked (one_each flat) (shaped-one_each flat s) r at long placed k v (one_each grid) same_d lk c o owns table asked lo
+  pub tally_is : (table : List Tally) (shared : ℕ) (line : Tally) → shared ≡ product (thicknesses (layout_of flat).extents (layout_of flat).cuts (take flat.d at))
+      → line ≡ line_tally grid c table (get_or grid.cuts c 0) o → thick shared line ≡ tally_of_line grid flat c k v table r
+  tally_is table shared line es el =
+      ap₂ (λ (m n : ℕ). record { elements = m; tiles = n })
+      (line_is flat s r at long placed k v grid same_d lk c o owns (elements_in table) shared line.elements es (ap (λ (a : Tally). a.elements) el))
+      (ap (λ (a : Tally). a.tiles) el ∙ count_is (tiles_in table))
 
--- ---- one of a slab's lines: where their sum fits, each does
-pub one_of_lines : (grid flat : Plan) (c k v r n : ℕ) (table : List ℕ) → r < n
-    → SlabAsked grid flat c k v table (sum n (slab_line grid flat c k v table)) → SlabAsked grid flat c k v table (slab_line grid flat c k v table r)
-one_of_lines grid flat c k v r n table l asked = record {
-  shape = asked.shape;
-  flat_shape = asked.flat_shape;
-  same_d = asked.same_d;
-  along = asked.along;
-  dimension = asked.dimension;
-  slab_small = asked.slab_small;
-  places = asked.places;
-  volume_fits = asked.volume_fits;
-  fits = le_trans (sum_term-le n r (slab_line grid flat c k v table) l) asked.fits;
-}
+  pub line_asked : (table : List Tally) → Fits (tally_of_line grid flat c k v table r) → o < grid.p → LineAsked grid c table o
+  line_asked table fits lo = record {
+    processor = lo;
+    fits = record {
+      elements = line_fits flat s r at long placed k v grid same_d lk c o owns (elements_in table) fits.elements;
+      tiles = subst⁻¹ (λ (n : ℕ). n ≤ 4294967295) (count_is (tiles_in table)) fits.tiles;
+    };
+  }
+
+-- ---- the lines of a slab, one after the other
+
+module _ (grid flat : Plan) (c k v : ℕ) (table : List Tally) (n : ℕ) (fits : Fits (tally_of_lines grid flat c k v table n)) (r : ℕ) (l : r < n) where
+  -- where their sum fits, each does
+  pub one_of_lines : Fits (tally_of_line grid flat c k v table r)
+  one_of_lines = record {
+    elements = le_trans (sum_term-le n r (slab_line grid flat c k v (elements_in table)) l) fits.elements;
+    tiles = le_trans (sum_term-le n r (slab_line (one_each grid) (one_each flat) c k v (tiles_in table)) l) fits.tiles;
+  }
+
+  -- and so does the sum of the first
+  lines_more : plus (tally_of_lines grid flat c k v table r) (tally_of_line grid flat c k v table r) ≡ tally_of_lines grid flat c k v table (r + 1)
+  lines_more =
+      ap₂ (λ (a b : ℕ). record { elements = a; tiles = b }) (sym (sum-add-one r (slab_line grid flat c k v (elements_in table))))
+      (sym (sum-add-one r (slab_line (one_each grid) (one_each flat) c k v (tiles_in table))))
+
+  module _ (tally line : Tally) (e : tally ≡ tally_of_lines grid flat c k v table r) (el : line ≡ tally_of_line grid flat c k v table r) where
+    pub lines_next : plus tally line ≡ tally_of_lines grid flat c k v table (r + 1)
+    lines_next = ap₂ plus e el ∙ lines_more
+
+    pub lines_fit : Fits (plus tally line)
+    lines_fit =
+        subst⁻¹ Fits lines_next (record {
+          elements = le_trans (sum_front-le (r + 1) n (slab_line grid flat c k v (elements_in table)) (omega arith)) fits.elements;
+          tiles = le_trans (sum_front-le (r + 1) n (slab_line (one_each grid) (one_each flat) c k v (tiles_in table)) (omega arith)) fits.tiles;
+        })

@@ -1,5 +1,5 @@
 -- What the loops over thicknesses, elements and lines keep: products of thicknesses stay within those of the extents, and elements within one extent.
-use mathlib.Core.Path.{◌≡◌, refl, sym, ap, ap₂, ◌∙◌, subst⁻¹}
+use mathlib.Core.Path.{◌≡◌, refl, sym, ap, ap₂, ◌∙◌, subst, subst⁻¹}
 use mathlib.Core.List.{List, [], ◌∷◌}
 use mathlib.Core.Bool.{false}
 use Prim.Native.Nat.{ℕ, zero, suc, ◌+◌, ◌-◌, ◌*◌, ◌≤◌, ◌<◌}
@@ -7,8 +7,9 @@ use native.Mathlib.Nat.{not-suc-le-zero, le_of_suc-le-suc, le_refl, mul-le-mul, 
 use native.Mathlib.Decide.{ℕ_discrete}
 use native.Mathlib.Numerals.{add-one}
 use native.Mathlib.Omega.{arith}
-use lib.ListN.{length, get_or, set, take, replicate, length-set, length-replicate}
-use lib.Seq.{get_or-set_same, get_or-set_other}
+use lib.LanesLaws.{map-replicate}
+use lib.ListN.{length, get_or, set, take, replicate, length-set, length-replicate, length-map, get_or-map}
+use lib.Seq.{get_or-set_same, get_or-set_other, map-set}
 use Rattle.numbers.specs.Products.{product}
 use Rattle.numbers.specs.Sums.{sum, same}
 use Rattle.numbers.proofs.Sums.{same_yes, same_no}
@@ -28,7 +29,8 @@ use Rattle.walks.specs.declared.Coordinated.{Coordinated}
 use Rattle.walks.specs.declared.Stride.{Stride}
 use Rattle.walks.specs.Walks.{Strides, Steps}
 use Rattle.timetable.specs.Faces.{thicknesses, face_of, faces_held}
-use Rattle.timetable.specs.Rows.{steps_on, elements_of, RowTable, one_each}
+use Rattle.timetable.specs.declared.slab_faces.Tally.{Tally}
+use Rattle.timetable.specs.Rows.{steps_on, elements_of, RowTable, one_each, elements_in, tiles_in, no_tally, plus, Fits, Shares}
 use Rattle.timetable.proofs.Faces.{Cut, sum-thickness, held_faces}
 use Rattle.timetable.proofs.Rows.{length-thicknesses}
 use Rattle.timetable.proofs.Walks.{Walk, walk_small, walk_more}
@@ -155,7 +157,7 @@ module _ (plan : Plan) (j q : ℕ) where
   zeros (suc n) zero = refl
   zeros (suc n) (suc o) = zeros n o
 
-  pub table_none : RowTable plan j q 0 (replicate 4096 0)
+  table_none : RowTable plan j q 0 (replicate 4096 0)
   unfolding sum
   table_none = record { places = length-replicate {A = ℕ} 4096 0; entry = λ o l. zeros 4096 o }
 
@@ -207,39 +209,83 @@ module _ (plan : Plan) (j q m o : ℕ) (table : List ℕ) (small : o < 4096) (mo
   unfolding one_each layout_of
   counted_more e w = table_more (one_each plan) j q m o 1 table e small (sym (thickness_of-one (get_or plan.cuts j 0) m more)) w
 
--- ---- both tables as they are filled
+-- ---- the table as it is filled
 
--- the walk down from q with the tables of the first t slabs
-pub record Sharing (plan : Plan) (j q t : ℕ) (elements counts : List ℕ) (at : Coordinated) : Type 0 where
+-- a tally of two zeros
+pub nothing : (tally : Tally) → (tally.elements ≡ 0) × (tally.tiles ≡ 0) → tally ≡ no_tally
+nothing tally e = ap₂ (λ (m n : ℕ). record { elements = m; tiles = n }) e.0 e.1
+
+pub shares_none : (plan : Plan) (j q : ℕ) → Shares plan j q 0 (replicate 4096 no_tally)
+shares_none plan j q = record {
+  elements = subst⁻¹ (RowTable plan j q 0) (map-replicate (λ tally. tally.elements) 4096 no_tally) (table_none plan j q);
+  tiles = subst⁻¹ (RowTable (one_each plan) j q 0) (map-replicate (λ tally. tally.tiles) 4096 no_tally) (table_none (one_each plan) j q);
+}
+
+-- the walk down from q with the table of the first t slabs
+pub record Sharing (plan : Plan) (j q t : ℕ) (table : List Tally) (at : Coordinated) : Type 0 where
   pub walk : Walk plan j false q t at
-  pub elements_table : RowTable plan j q t elements
-  pub counts_table : RowTable (one_each plan) j q t counts
+  pub shares : Shares plan j q t table
 
-module _ (plan : Plan) (s : Shaped plan) (j : ℕ) (lj : j < plan.d) (q t : ℕ) (l : t < get_or plan.cuts j 0) (elements counts : List ℕ)
-    (at : Coordinated) (w : Sharing plan j q t elements counts at) (side : ℕ) (e : side ≡ thickness (get_or plan.extents j 0) (get_or plan.cuts j 0) t) where
+-- one turn: n elements in b slabs along the row, and slab t's share
+module _ (plan : Plan) (s : Shaped plan) (j : ℕ) (lj : j < plan.d) (q t : ℕ) (table : List Tally) (at : Coordinated) (w : Sharing plan j q t table at)
+    (n b : ℕ) (en : n ≡ get_or plan.extents j 0) (eb : b ≡ get_or plan.cuts j 0) (below : t < b)
+    (thick : ℕ) (e : thick ≡ thickness n b t) where
+  l : t < get_or plan.cuts j 0
+  l = subst (λ (m : ℕ). t < m) eb below
+
   small : at.number < 4096
   small = walk_small plan s j lj false q t at w.walk
 
-  pub elements_asked : (at.number < length elements) × (get_or elements at.number 0 + side ≤ 4294967295)
-  elements_asked =
-      rw w.elements_table.places (
-        small,
+  pub within_table : at.number < length table
+  within_table = subst⁻¹ (λ (n : ℕ). at.number < n) (sym (length-map table (λ tally. tally.elements)) ∙ w.shares.elements.places) small
+
+  side : thick ≡ thickness (get_or plan.extents j 0) (get_or plan.cuts j 0) t
+  side = e ∙ ap₂ (λ (m n : ℕ). thickness m n t) en eb
+
+  abbrev share : Tally
+  share = record { elements = thick; tiles = 1 }
+
+  pub share_fits : Fits (plus (get_or table at.number no_tally) share)
+  share_fits = record {
+    elements =
         omega (
           arith,
-          e,
-          w.elements_table.entry at.number small,
+          side,
+          get_or-map (λ tally. tally.elements) table at.number no_tally,
+          w.shares.elements.entry at.number small,
           entry_fits (layout_of plan).moduli (layout_of plan).matrix j (get_or plan.extents j 0) (get_or plan.cuts j 0) q t at.number (s.cut_low j lj) (s.cut_fits j lj) l,
           s.extent_high j lj,
-        ),
-      )
-
-  pub count_asked : (at.number < length counts) × (get_or counts at.number 0 + 1 ≤ 4294967295)
-  count_asked = rw w.counts_table.places (small, omega (arith, counted_fits plan j q t at.number counts small l w.counts_table, s.cut_high j lj))
-
-  pub sharing_more : (down : Stride) (to : Coordinated) → Strides plan j false down → Steps down at to
-      → Sharing plan j q (t + 1) (set elements at.number (get_or elements at.number 0 + side)) (set counts at.number (get_or counts at.number 0 + 1)) to
-  sharing_more down to strides steps = record {
-    walk = walk_more plan s j lj false q t at w.walk down to strides steps;
-    elements_table = table_more plan j q t at.number side elements w.walk.stands.number_is small e w.elements_table;
-    counts_table = counted_more plan j q t at.number counts small l w.walk.stands.number_is w.counts_table;
+        );
+    tiles =
+        omega (
+          arith,
+          get_or-map (λ tally. tally.tiles) table at.number no_tally,
+          counted_fits plan j q t at.number (tiles_in table) small l w.shares.tiles,
+          s.cut_high j lj,
+        );
   }
+
+  pub sharing_more : (sum : Tally) → sum ≡ plus (get_or table at.number no_tally) share → (down : Stride) (to : Coordinated) → Strides plan j false down → Steps down at to
+      → Sharing plan j q (t + 1) (set table at.number sum) to
+  sharing_more sum es down to strides steps = record {
+    walk = walk_more plan s j lj false q t at w.walk down to strides steps;
+    shares = record {
+      elements =
+          subst⁻¹ (RowTable plan j q (t + 1)) columns.0
+          (table_more plan j q t at.number thick (elements_in table) w.walk.stands.number_is small side w.shares.elements);
+      tiles =
+          subst⁻¹ (RowTable (one_each plan) j q (t + 1)) columns.1
+          (counted_more plan j q t at.number (tiles_in table) small l w.walk.stands.number_is w.shares.tiles);
+    };
+  }
+    where
+      columns : (elements_in (set table at.number sum) ≡ set (elements_in table) at.number (get_or (elements_in table) at.number 0 + thick))
+          × (tiles_in (set table at.number sum) ≡ set (tiles_in table) at.number (get_or (tiles_in table) at.number 0 + 1))
+      columns = (
+        map-set (λ tally. tally.elements) table at.number sum
+            ∙ ap (λ (n : ℕ). set (elements_in table) at.number n)
+            (ap (λ (a : Tally). a.elements) es ∙ ap (λ (n : ℕ). n + thick) (sym (get_or-map (λ tally. tally.elements) table at.number no_tally))),
+        map-set (λ tally. tally.tiles) table at.number sum
+            ∙ ap (λ (n : ℕ). set (tiles_in table) at.number n)
+            (ap (λ (a : Tally). a.tiles) es ∙ ap (λ (n : ℕ). n + 1) (sym (get_or-map (λ tally. tally.tiles) table at.number no_tally))),
+      )

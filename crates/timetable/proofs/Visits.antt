@@ -1,57 +1,48 @@
 -- A visit as the functions put it together, and the refusals in their order.
 use mathlib.Core.Path.{◌≡◌, sym, ap, ap₂, ◌∙◌, subst⁻¹}
 use mathlib.Core.Logic.{◌≢◌}
-use mathlib.Core.Bool.{Bool, true, false, not, cond}
+use mathlib.Core.Bool.{Bool, true, false, not, cond, ◌&&◌}
+use mathlib.Core.List.{List, [], ◌∷◌}
 use mathlib.Core.Option.{none, some}
 use Prim.Native.Nat.{ℕ, suc, ◌+◌, ◌-◌, ◌≤◌, ◌<◌}
 use native.Mathlib.Numerals.{add-one}
 use native.Mathlib.Omega.{arith}
-use borrow.Author.Tests.{eq-eqb, ne_eqb, le-leb, lt-leb, lt-ltb, le-ltb}
-use lib.Dec.{leb, eqb}
+use borrow.Author.Tests.{eq-eqb, ne_eqb, lt-ltb, le-ltb}
+use lib.Dec.{leb, ltb, eqb}
 use lib.ListN.{get_or}
-use Rattle.multipartition.specs.Answers.{answered, refused}
+use Rattle.multipartition.specs.Answers.{Answer, answered, refused, Check, checked}
 use Rattle.multipartition.specs.Neighbours.{next_owner, neighbour_at}
-use Rattle.multipartition.specs.Plans.{Layout, between, in_shape}
-use Rattle.multipartition.specs.Questions.{cut_of, owner_by}
+use Rattle.multipartition.specs.Questions.{cut_of, range_check, owner_by}
 use Rattle.multipartition.specs.Rivals.{held}
 use Rattle.multipartition.proofs.Neighbours.{neighbour_some}
 use Rattle.layout.specs.declared.Plan.{Plan}
 use Rattle.layout.specs.Plans.{layout_of}
-use Rattle.layout.specs.Shaped.{Shaped}
+use Rattle.layout.specs.declared.axes.Axis.{Axis}
+use Rattle.layout.specs.Checked.{axis_checks, axis_answer, axis_of}
+use Rattle.refusals.specs.declared.Refusal.{Refusal}
+use Rattle.refusals.specs.Told.{turned_back}
+use Rattle.refusals.proofs.Laws.{turned_back-on, passed-on}
 use Rattle.layout.proofs.Places as places
-use Rattle.layout.proofs.Shaped.{in_shape_of_shaped}
-use Rattle.tiles.proofs.Numbering.{is_dimension, cut_at}
+use Rattle.tiles.proofs.Numbering.{cut_at}
 use Rattle.timetable.specs.Faces.{faces_held}
-use Rattle.timetable.specs.Timetable.{neighbour_by, other_extents, slab_visited, faces_at, Message, message_with, sends_after, expects_before, Visit, visit_of, timetable_answer}
+use Rattle.timetable.specs.Timetable.{neighbour_by, other_extents, other_extents_check, slab_visited, faces_at, Message, message_with, sends_after, expects_before, Visit, visit_of, timetable_answer}
 
 module _ (plan : Plan) (k : ℕ) (lk : k < plan.d) where
   back : k + 1 - 1 ≡ k
   back = omega arith
 
-  neighbour_is : (up : Bool) (q : ℕ) → get_or plan.cuts k 0 ≢ 1
+  pub neighbour_is : (up : Bool) (q : ℕ) → 1 < get_or plan.cuts k 0
       → neighbour_by (layout_of plan) (k + 1) up q ≡ some (next_owner (layout_of plan).moduli (layout_of plan).matrix k up q)
   neighbour_is up q cut =
       ap (λ (n : ℕ). neighbour_at (layout_of plan).cuts (layout_of plan).moduli (layout_of plan).matrix n up q) back
-      ∙ neighbour_some (layout_of plan).cuts (layout_of plan).moduli (layout_of plan).matrix k up q (λ z. cut (sym (places.cut_at plan k lk) ∙ z))
+      ∙ neighbour_some (layout_of plan).cuts (layout_of plan).moduli (layout_of plan).matrix k up q (λ z. omega (arith, cut, places.cut_at plan k lk, z))
 
-  module _ (step q length : ℕ) (below : step < get_or plan.cuts k 0) where
-    pub sends_last : (up : Bool) → step + 1 ≡ get_or plan.cuts k 0
-        → none ≡ cond (eqb (suc step) (cut_of (layout_of plan) (k + 1))) none (message_with (neighbour_by (layout_of plan) (k + 1) up q) length)
-    sends_last up e = rw (eq-eqb (suc step) (cut_of (layout_of plan) (k + 1)) (sym (add-one step) ∙ e ∙ sym (cut_at plan k lk)))
+  -- at the last step, and before it
+  pub last_step : (step : ℕ) → step + 1 ≡ get_or plan.cuts k 0 → eqb (suc step) (cut_of (layout_of plan) (k + 1)) ≡ true
+  last_step step e = eq-eqb (suc step) (cut_of (layout_of plan) (k + 1)) (sym (add-one step) ∙ e ∙ sym (cut_at plan k lk))
 
-    pub sends_on : (up : Bool) → step + 1 ≢ get_or plan.cuts k 0
-        → some (next_owner (layout_of plan).moduli (layout_of plan).matrix k up q, length)
-        ≡ cond (eqb (suc step) (cut_of (layout_of plan) (k + 1))) none (message_with (neighbour_by (layout_of plan) (k + 1) up q) length)
-    sends_on up n =
-        rw (
-          ne_eqb (suc step) (cut_of (layout_of plan) (k + 1)) (λ e. n (add-one step ∙ e ∙ cut_at plan k lk)),
-          neighbour_is up q (λ one. n (omega arith)),
-        )
-
-    pub expects_on : (up : Bool) → step ≢ 0
-        → some (next_owner (layout_of plan).moduli (layout_of plan).matrix k up q, length)
-        ≡ cond (eqb step 0) none (message_with (neighbour_by (layout_of plan) (k + 1) up q) length)
-    expects_on up n = rw (ne_eqb step 0 n, neighbour_is up q (λ one. n (omega arith)))
+  pub not-last_step : (step : ℕ) → step + 1 ≢ get_or plan.cuts k 0 → eqb (suc step) (cut_of (layout_of plan) (k + 1)) ≡ false
+  not-last_step step n = ne_eqb (suc step) (cut_of (layout_of plan) (k + 1)) (λ e. n (add-one step ∙ e ∙ cut_at plan k lk))
 
   -- the parts of a visit
   pub visit_is : (up : Bool) (step q slab tiles length : ℕ) (sent expected : Message) → slab ≡ slab_visited (get_or plan.cuts k 0) up step
@@ -79,57 +70,45 @@ module _ (plan : Plan) (k : ℕ) (lk : k < plan.d) where
 
 -- ---- the checks, in their order
 
-module _ (plan : Layout) (k : ℕ) (up : Bool) (s q : ℕ) where
-  pub refused-6 : in_shape plan ≡ false → refused 6 0 ≡ timetable_answer plan k up s q
-  unfolding timetable_answer
-  refused-6 e = rw e
+-- what is left to check of a dimension that the plan has, and the visit
+abbrev pub left_of : Plan → ℕ → Bool → ℕ → ℕ → Answer Visit
+left_of plan k up s q =
+    checked (other_extents_check (layout_of plan) k ∷ range_check (ltb s (cut_of (layout_of plan) k) && ltb q (layout_of plan).p) ∷ [])
+    (answered (visit_of (layout_of plan) k up s q))
 
-  module _ (shape : in_shape plan ≡ true) where
-    pub refused_7_below : k < 1 → refused 7 0 ≡ timetable_answer plan k up s q
-    unfolding timetable_answer
-    refused_7_below l = rw (shape, lt-leb 1 k l)
+module _ (plan : Plan) (k : ℕ) (up : Bool) (s q : ℕ) where
+  after_axis : List Check
+  after_axis = other_extents_check (layout_of plan) k ∷ range_check (ltb s (cut_of (layout_of plan) k) && ltb q (layout_of plan).p) ∷ []
 
-    pub refused_7_above : 1 ≤ k → plan.d < k → refused 7 0 ≡ timetable_answer plan k up s q
-    unfolding timetable_answer
-    refused_7_above low l = rw (shape, le-leb 1 k low, lt-leb k plan.d l)
+  -- a plan that is out of shape or has no such dimension
+  pub no_axis : (r : Refusal) → turned_back r ≡ axis_answer plan k → turned_back r ≡ timetable_answer (layout_of plan) k up s q
+  unfolding timetable_answer after_axis
+  no_axis r e = turned_back-on (axis_checks plan k) after_axis (plan, k) (answered (visit_of (layout_of plan) k up s q)) e
 
-    module _ (dimension : between 1 plan.d k ≡ true) where
-      refused-11 : leb (other_extents plan k) 4294967295 ≡ false → refused 11 0 ≡ timetable_answer plan k up s q
-      unfolding timetable_answer
-      refused-11 e = rw (shape, dimension, e)
+  -- a dimension of it
+  pub an_axis : (axis : Axis) → answered (axis_of axis) ≡ axis_answer plan k
+      → left_of axis.shaped.plan (axis.k + 1) up s q ≡ timetable_answer (layout_of plan) k up s q
+  unfolding timetable_answer after_axis
+  an_axis axis e =
+      let passed = passed-on (axis_checks plan k) after_axis (plan, k) (axis_of axis) (answered (visit_of (layout_of plan) k up s q)) e in
+      ap (λ (a : Plan × ℕ). left_of a.0 a.1 up s q) passed.0 ∙ sym passed.1
 
-      module _ (lengths : leb (other_extents plan k) 4294967295 ≡ true) where
-        refused_8-step : cut_of plan k ≤ s → refused 8 0 ≡ timetable_answer plan k up s q
-        unfolding timetable_answer
-        refused_8-step h = rw (shape, dimension, lengths, le-ltb s (cut_of plan k) h)
-
-        refused_8_processor : s < cut_of plan k → plan.p ≤ q → refused 8 0 ≡ timetable_answer plan k up s q
-        unfolding timetable_answer
-        refused_8_processor l h = rw (shape, dimension, lengths, lt-ltb s (cut_of plan k) l, le-ltb q plan.p h)
-
-        visited : s < cut_of plan k → q < plan.p → answered (visit_of plan k up s q) ≡ timetable_answer plan k up s q
-        unfolding timetable_answer
-        visited l h = rw (shape, dimension, lengths, lt-ltb s (cut_of plan k) l, lt-ltb q plan.p h)
-
--- the same of a plan by value, at place k
-module _ (plan : Plan) (shape : Shaped plan) (k : ℕ) (lk : k < plan.d) (up : Bool) (s q : ℕ) where
-  is_in_shape : in_shape (layout_of plan) ≡ true
-  is_in_shape = in_shape_of_shaped plan shape
-
-  pub along-11 : leb (other_extents (layout_of plan) (k + 1)) 4294967295 ≡ false → refused 11 0 ≡ timetable_answer (layout_of plan) (k + 1) up s q
-  along-11 e = refused-11 (layout_of plan) (k + 1) up s q is_in_shape (is_dimension plan k lk) e
+module _ (plan : Plan) (k : ℕ) (lk : k < plan.d) (up : Bool) (s q : ℕ) where
+  pub left-11 : leb (other_extents (layout_of plan) (k + 1)) 4294967295 ≡ false → refused 11 0 ≡ left_of plan (k + 1) up s q
+  left-11 e = rw e
 
   module _ (lengths : leb (other_extents (layout_of plan) (k + 1)) 4294967295 ≡ true) where
-    pub along_8-step : get_or plan.cuts k 0 ≤ s → refused 8 0 ≡ timetable_answer (layout_of plan) (k + 1) up s q
-    along_8-step h =
-        refused_8-step (layout_of plan) (k + 1) up s q is_in_shape (is_dimension plan k lk) lengths (subst⁻¹ (λ (n : ℕ). n ≤ s) (cut_at plan k lk) h)
+    pub left_8-step : get_or plan.cuts k 0 ≤ s → refused 8 0 ≡ left_of plan (k + 1) up s q
+    left_8-step h = rw (lengths, le-ltb s (cut_of (layout_of plan) (k + 1)) (subst⁻¹ (λ (n : ℕ). n ≤ s) (cut_at plan k lk) h))
 
-    pub along_8_processor : s < get_or plan.cuts k 0 → plan.p ≤ q → refused 8 0 ≡ timetable_answer (layout_of plan) (k + 1) up s q
-    unfolding layout_of
-    along_8_processor l h =
-        refused_8_processor (layout_of plan) (k + 1) up s q is_in_shape (is_dimension plan k lk) lengths (subst⁻¹ (λ (n : ℕ). s < n) (cut_at plan k lk) l) h
+    module _ (below : s < get_or plan.cuts k 0) where
+      step_below : ltb s (cut_of (layout_of plan) (k + 1)) ≡ true
+      step_below = lt-ltb s (cut_of (layout_of plan) (k + 1)) (subst⁻¹ (λ (n : ℕ). s < n) (cut_at plan k lk) below)
 
-    pub along_visited : s < get_or plan.cuts k 0 → q < plan.p → answered (visit_of (layout_of plan) (k + 1) up s q) ≡ timetable_answer (layout_of plan) (k + 1) up s q
-    unfolding layout_of
-    along_visited l h =
-        visited (layout_of plan) (k + 1) up s q is_in_shape (is_dimension plan k lk) lengths (subst⁻¹ (λ (n : ℕ). s < n) (cut_at plan k lk) l) h
+      pub left_8_processor : plan.p ≤ q → refused 8 0 ≡ left_of plan (k + 1) up s q
+      unfolding layout_of
+      left_8_processor h = rw (lengths, step_below, le-ltb q plan.p h)
+
+      pub left_visited : q < plan.p → answered (visit_of (layout_of plan) (k + 1) up s q) ≡ left_of plan (k + 1) up s q
+      unfolding layout_of
+      left_visited h = rw (lengths, step_below, lt-ltb q plan.p h)

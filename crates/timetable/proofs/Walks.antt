@@ -1,13 +1,18 @@
 -- A walk of t steps from processor o along dimension c, one slab a step: it stands at the processor t steps on.
 use mathlib.Core.Path.{◌≡◌, sym, ap, subst, subst⁻¹}
 use mathlib.Core.Bool.{Bool}
+use mathlib.Core.List.{List}
 use Prim.Native.Nat.{ℕ, ◌+◌, ◌<◌}
 use native.Mathlib.Nat.{le_trans}
 use native.Mathlib.Numerals.{add-one}
+use lib.ListN.{take}
 use Rattle.multipartition.specs.Neighbours.{next_owner}
+use Rattle.multipartition.specs.Owners.{owner_at}
 use Rattle.layout.specs.declared.Plan.{Plan}
-use Rattle.layout.specs.Plans.{layout_of}
+use Rattle.layout.specs.Plans.{rows_from, layout_of}
 use Rattle.layout.specs.Shaped.{Shaped}
+use Rattle.questions.specs.Asks.{Asks}
+use Rattle.questions.specs.declared.reduced.Owners.{Owners}
 use Rattle.walks.specs.declared.Coordinated.{Coordinated}
 use Rattle.walks.specs.declared.Stride.{Stride}
 use Rattle.walks.specs.Walks.{IsProcessor, Strides, Steps}
@@ -37,3 +42,17 @@ module _ (plan : Plan) (s : Shaped plan) (c : ℕ) (lc : c < plan.d) (up : Bool)
         onward : next_owner (layout_of plan).moduli (layout_of plan).matrix c up (steps_on (layout_of plan).moduli (layout_of plan).matrix c up t o)
             ≡ steps_on (layout_of plan).moduli (layout_of plan).matrix c up (t + 1) o
         onward = ap (λ (n : ℕ). steps_on (layout_of plan).moduli (layout_of plan).matrix c up n o) (sym (add-one t))
+
+-- ---- what the questions answer of a plan's moduli and matrix, lent
+
+pub owner_asked : (plan : Plan) (owners : Owners) → Asks plan owners → (position : List ℕ)
+    → owner_at (take owners.d owners.moduli.now) (rows_from owners.d 0 owners.d owners.matrix.now) position
+    ≡ owner_at (layout_of plan).moduli (layout_of plan).matrix position
+unfolding layout_of
+owner_asked plan owners asks position = rw (asks.d_is, asks.moduli_are, asks.matrix_are)
+
+pub neighbour_asked : (plan : Plan) (owners : Owners) → Asks plan owners → (k : ℕ) (up : Bool) (q : ℕ)
+    → next_owner (take owners.d owners.moduli.now) (rows_from owners.d 0 owners.d owners.matrix.now) k up q
+    ≡ next_owner (layout_of plan).moduli (layout_of plan).matrix k up q
+unfolding layout_of
+neighbour_asked plan owners asks k up q = rw (asks.d_is, asks.moduli_are, asks.matrix_are)

@@ -1,16 +1,18 @@
 -- How the faces of a processor in a slab are added up. Along a dimension the owner goes from neighbour to neighbour, so a row of tiles along one
 -- dimension is known from the owner of its first tile: a table has, for each such owner, what the row has of the processor. The table is read for
 -- the rows of the slab, which again lie in lines along a dimension. Dimensions are counted from 0.
-use Rattle.std.specs.Prelude.{Bool, true, false, List, [], ◌∷◌, ◌≡◌, ℕ, zero, suc, ◌*◌, ◌/◌, ◌%◌, ◌≤◌, ◌<◌, length, get_or, set, take, replicate}
+use Rattle.std.specs.Prelude.{Bool, true, false, List, [], ◌∷◌, ◌≡◌, ℕ, zero, suc, ◌+◌, ◌*◌, ◌/◌, ◌%◌, ◌≤◌, ◌<◌, length, get_or, map, set, take, replicate}
 use Rattle.numbers.specs.Products.{product}
 use Rattle.numbers.specs.Sums.{sum, same}
 use Rattle.multipartition.specs.Owners.{owner_at}
 use Rattle.multipartition.specs.Neighbours.{next_owner}
+use Rattle.multipartition.specs.Questions.{owner_by}
+use Rattle.multipartition.specs.Rivals.{held}
 use Rattle.multipartition.specs.Slabs.{thickness}
 use Rattle.layout.specs.declared.Plan.{Plan}
 use Rattle.layout.specs.Plans.{layout_of}
-use Rattle.layout.specs.Shaped.{Shaped}
-use Rattle.timetable.specs.Faces.{thicknesses}
+use Rattle.timetable.specs.Faces.{thicknesses, faces_held}
+use Rattle.timetable.specs.declared.slab_faces.Tally.{Tally}
 
 -- the positions of a grid, numbered with the first dimension fastest: any order serves
 unfoldable pub places_of : List ℕ → ℕ → List ℕ
@@ -85,14 +87,62 @@ slab_line grid flat c k v table =
     line_in (layout_of flat).extents (layout_of flat).cuts (layout_of grid).moduli (layout_of grid).matrix c
     (get_or grid.extents c 0) (get_or grid.cuts c 0) table k v
 
--- ---- what the functions ask
+-- ---- tallies
 
--- d numbers in the range of extents
-pub record ExtentRange (d : ℕ) (numbers : List ℕ) : Type 0 where
-  pub few : d ≤ 5
-  pub long : d ≤ length numbers
-  pub low : (i : ℕ) → i < d → 1 ≤ get_or numbers i 0
-  pub high : (i : ℕ) → i < d → get_or numbers i 0 ≤ 1000000
+-- the columns of a table
+abbrev pub elements_in : List Tally → List ℕ
+elements_in = map (λ tally. tally.elements)
+
+abbrev pub tiles_in : List Tally → List ℕ
+tiles_in = map (λ tally. tally.tiles)
+
+abbrev pub no_tally : Tally
+no_tally = record { elements = 0; tiles = 0 }
+
+abbrev pub plus : Tally → Tally → Tally
+plus a b = record { elements = a.elements + b.elements; tiles = a.tiles + b.tiles }
+
+-- the same tiles, each this thick in dimensions more
+abbrev pub thick : ℕ → Tally → Tally
+thick thickness a = record { elements = thickness * a.elements; tiles = a.tiles }
+
+-- both numbers fit 32 bits
+pub record Fits (a : Tally) : Type 0 where
+  pub elements : a.elements ≤ 4294967295
+  pub tiles : a.tiles ≤ 4294967295
+
+-- A table of rows along dimension j, with what the first m slabs have of q for each owner of a row's first tile. Tiles are the elements with one element
+-- in every slab.
+pub record Shares (plan : Plan) (j q m : ℕ) (table : List Tally) : Type 0 where
+  pub elements : RowTable plan j q m (elements_in table)
+  pub tiles : RowTable (one_each plan) j q m (tiles_in table)
+
+-- the line along dimension c whose first tile is o's, of the first m slabs
+abbrev pub line_tally : Plan → ℕ → List Tally → ℕ → ℕ → Tally
+line_tally grid c table m o = record { elements = line_of grid c (elements_in table) m o; tiles = line_of (one_each grid) c (tiles_in table) m o }
+
+-- line r of slab v of dimension k
+abbrev pub tally_of_line : Plan → Plan → ℕ → ℕ → ℕ → List Tally → ℕ → Tally
+tally_of_line grid flat c k v table r = record {
+  elements = slab_line grid flat c k v (elements_in table) r;
+  tiles = slab_line (one_each grid) (one_each flat) c k v (tiles_in table) r;
+}
+
+-- the first n lines
+abbrev pub tally_of_lines : Plan → Plan → ℕ → ℕ → ℕ → List Tally → ℕ → Tally
+tally_of_lines grid flat c k v table n = record {
+  elements = sum n (slab_line grid flat c k v (elements_in table));
+  tiles = sum n (slab_line (one_each grid) (one_each flat) c k v (tiles_in table));
+}
+
+-- what processor q has of slab v of dimension k
+abbrev pub tally_held : Plan → ℕ → ℕ → ℕ → Tally
+tally_held plan k v q = record {
+  elements = faces_held (layout_of plan).extents (layout_of plan).cuts (owner_by (layout_of plan)) k v q;
+  tiles = held (layout_of plan).cuts (owner_by (layout_of plan)) k v q;
+}
+
+-- ---- what the functions ask
 
 -- the first d places are those of position r
 abbrev pub HasPlaces : Plan → ℕ → List ℕ → Type 0
@@ -102,22 +152,16 @@ HasPlaces grid r at = (i : ℕ) → i < grid.d → get_or at i 0 ≡ get_or (pla
 abbrev pub BelowCuts : Plan → List ℕ → Type 0
 BelowCuts grid at = (i : ℕ) → i < grid.d → get_or at i 0 < get_or grid.cuts i 0
 
--- a line: its dimension, the owner of its first tile, and a table whose sum along it fits 32 bits
-pub record LineAsked (grid : Plan) (c : ℕ) (table : List ℕ) (o : ℕ) : Type 0 where
-  pub shape : Shaped grid
-  pub along : c < grid.d
+-- a line: the owner of its first tile, and a table whose sums along it fit 32 bits
+pub record LineAsked (grid : Plan) (c : ℕ) (table : List Tally) (o : ℕ) : Type 0 where
   pub processor : o < grid.p
-  pub places : length table ≡ 4096
-  pub fits : line_of grid c table (get_or grid.cuts c 0) o ≤ 4294967295
+  pub fits : Fits (line_tally grid c table (get_or grid.cuts c 0) o)
 
--- the lines of a slab, or one of them, whose sum fits 32 bits
-pub record SlabAsked (grid flat : Plan) (c k v : ℕ) (table : List ℕ) (sum-of-lines : ℕ) : Type 0 where
-  pub shape : Shaped grid
-  pub flat_shape : Shaped flat
+-- the lines of a slab, whose sums fit 32 bits
+pub record SlabAsked (grid flat : Plan) (c k v : ℕ) (table : List Tally) : Type 0 where
   pub same_d : flat.d ≡ grid.d
-  pub along : c < grid.d
   pub dimension : k < grid.d
   pub slab_small : v < 4096
   pub places : length table ≡ 4096
   pub volume_fits : product (take flat.d flat.extents) ≤ 4294967295
-  pub fits : sum-of-lines ≤ 4294967295
+  pub fits : Fits (tally_of_lines grid flat c k v table (product (layout_of flat).cuts))

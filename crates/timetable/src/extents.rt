@@ -1,42 +1,28 @@
 // Whether the product of the other extents fits 32 bits, so that every message length does: refusal 11 is for the others.
-ghost use Rattle.std.specs.Prelude.{◌≡◌, ◌+◌, ◌<◌, leb, take};
+ghost use Rattle.std.specs.Prelude.{cond, ◌≡◌, ◌+◌, ◌≤◌, leb, All};
 ghost use Rattle.numbers.specs.Products.{product};
 ghost use Rattle.layout.specs.Plans.{layout_of};
-ghost use Rattle.layout.specs.Shaped.{Shaped};
 ghost use Rattle.timetable.specs.Timetable.{other_extents};
-ghost use Rattle.timetable.specs.Rows.{ExtentRange};
 
-use layout::Plan;
+use layout::Axis;
 
-// The number, in 64 bits.
-fn wide(number: u32) -> u64
-    ensures { result ≡ number }
+// The product of the numbers, none of them 0, if it is at most 4,294,967,295. It stops at the first product above, since no later one is smaller.
+fn product(numbers: &[u32]) -> Option<u32>
+    requires { All (λ number. 1 ≤ number) numbers.now }
+    ensures { result ≡ cond (leb (product numbers.now) 4294967295) (Some (product numbers.now)) None }
 {
-    number as u64
-}
-
-// Whether the product of the first d numbers, each from 1 to 1,000,000, is at most 4,294,967,295. It stops at the first product above, since no
-// later one is smaller.
-fn product_fits(d: usize, numbers: [u32; 5]) -> bool
-    requires { ExtentRange d numbers }
-    ensures { result ≡ leb (product (take d numbers)) 4294967295 }
-{
-    let mut all: u64 = 1;
-    for i in 0..d {
-        all = all * wide(numbers[i]);
-        if 4294967295 < all {
-            return false;
-        }
+    let mut all: u32 = 1;
+    for number in numbers {
+        all = all.checked_mul(*number)?;
     }
-    true
+    Some(all)
 }
 
-// Whether the product of the other extents than that of place k is at most 4,294,967,295.
-pub fn others_fit(plan: Plan, k: usize) -> bool
-    requires { (Shaped plan) × (k < plan.d) }
-    ensures { result ≡ leb (other_extents (layout_of plan) (k + 1)) 4294967295 }
+// Whether the product of the other extents than the axis's own is at most 4,294,967,295.
+pub fn others_fit(axis: Axis) -> bool
+    ensures { result ≡ leb (other_extents (layout_of axis.shaped.plan) (axis.k + 1)) 4294967295 }
 {
-    let mut others = plan.extents;
-    others[k] = 1;
-    product_fits(plan.d, others)
+    let mut others = axis.shaped.plan.extents;
+    others[axis.k] = 1;
+    product(&others[..axis.shaped.plan.d]).is_some()
 }

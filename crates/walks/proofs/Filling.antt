@@ -3,7 +3,7 @@ use mathlib.Core.Path.{◌≡◌, refl, sym, ap, ◌∙◌}
 use mathlib.Core.Bool.{Bool}
 use mathlib.Core.List.{List}
 use mathlib.Core.Logic.{◌≢◌}
-use Prim.Native.Nat.{ℕ, zero, suc, ◌+◌, ◌-◌, ◌*◌, ◌/◌, ◌%◌, ◌≤◌, ◌<◌}
+use Prim.Native.Nat.{ℕ, suc, ◌+◌, ◌*◌, ◌/◌, ◌%◌, ◌≤◌, ◌<◌}
 use native.Mathlib.Nat.{le_trans, mod-lt, div-one, div-div-eq-div-mul}
 use native.Mathlib.Decide.{dec_le}
 use native.Mathlib.Omega.{arith}
@@ -59,18 +59,19 @@ module _ (plan : Plan) (s : Shaped plan) (q : ℕ) where
   digit i left l e =
       sym (digit_at (take plan.d plan.moduli) q i (omega (arith, moduli_length plan s)) ∙ rw (get_or-take plan.d plan.moduli i 0 l, e))
 
-  pub standing-next : (i left : ℕ) (at : List ℕ) → 0 < i → i ≤ plan.d → Standing plan q i left at
-      → Standing plan q (i - 1) (left / get_or plan.moduli (i - 1) 0) (set at (i - 1) (left % get_or plan.moduli (i - 1) 0))
-  standing-next zero left at low high w = absurd (omega arith)
-  standing-next (suc i) left at low high w =
-      let here : suc i - 1 ≡ i = omega arith in
+  -- the coordinate of dimension i, whose modulus is m
+  pub standing-next : (n i m left : ℕ) (at : List ℕ) → n ≡ i + 1 → i < plan.d → m ≡ get_or plan.moduli i 0 → Standing plan q n left at
+      → Standing plan q i (left / m) (set at i (left % m))
+  standing-next n i m left at next l here w =
+      let to : n ≡ suc i = omega arith in
+      let was : Standing plan q (suc i) left at = rw to at w in
       rw here
       (record {
-        places = length-set at i _ ∙ w.places;
-        left_is = rw w.left_is (div-div-eq-div-mul q (radix_at plan.d plan.moduli (suc i)) (get_or plan.moduli i 0)
-            ∙ ap (λ (r : ℕ). q / r) (sym (radix-suc plan.d plan.moduli plan.matrix (reduced_of_shaped plan s) i (omega arith))));
-        coordinate_is = λ j from to. set_at (λ j. get_or (digits_of (layout_of plan).moduli q) j 0) at i _ (omega (arith, w.places, s.d_high))
-            (digit i left (omega arith) w.left_is) j (λ differ. w.coordinate_is j (omega arith) to);
+        places = length-set at i _ ∙ was.places;
+        left_is = rw was.left_is (div-div-eq-div-mul q (radix_at plan.d plan.moduli (suc i)) (get_or plan.moduli i 0)
+            ∙ ap (λ (r : ℕ). q / r) (sym (radix-suc plan.d plan.moduli plan.matrix (reduced_of_shaped plan s) i l)));
+        coordinate_is = λ j from to. set_at (λ j. get_or (digits_of (layout_of plan).moduli q) j 0) at i _ (omega (arith, was.places, s.d_high))
+            (digit i left l was.left_is) j (λ differ. was.coordinate_is j (omega arith) to);
       })
 
 -- ---- the stride

@@ -3,10 +3,9 @@
 #![tactic(auto)]
 
 ghost use Rattle.std.specs.Prelude.{◌<◌, ◌≡◌};
-ghost use Rattle.layout.specs.Shaped.{Shaped};
 ghost use Rattle.walks.specs.Walks.{IsProcessor, stride_of, Strides, Walkable, Steps};
 
-use layout::Plan;
+use layout::{Axis, ShapedPlan};
 use questions::modulo;
 
 // A processor by its number and its coordinates, zero past d.
@@ -16,7 +15,7 @@ pub struct Coordinated {
     pub coordinates: [u32; 5],
 }
 
-// The moduli of a plan, and what a step adds to each coordinate.
+// The moduli of a plan, and what a step adds to each coordinate. Five places, as in a plan: those past d leave a processor as it is.
 #[derive(Clone, Copy)]
 pub struct Stride {
     pub moduli: [u32; 5],
@@ -24,23 +23,20 @@ pub struct Stride {
 }
 
 // The processor with its coordinates, from the last, which runs fastest, to the first.
-pub fn with_coordinates(plan: Plan, processor: u32) -> Coordinated
-    requires { Shaped plan }
-    ensures { IsProcessor plan processor result }
+pub fn with_coordinates(shaped: ShapedPlan, processor: u32) -> Coordinated
+    ensures { IsProcessor shaped.plan processor result }
 {
-    let d = plan.d;
+    let plan = &shaped.plan;
     let mut coordinates = [0; 5];
     let mut rest = processor;
-    let mut i = d;
-    while 0 < i {
-        i = i - 1;
-        let m = plan.moduli[i];
-        coordinates[i] = rest % m;
-        rest = rest / m;
+    // An index beside the item: it is the place that is written.
+    for (i, m) in plan.moduli[..plan.d].iter().enumerate().rev() {
+        coordinates[i] = rest % *m;
+        rest = rest / *m;
     }
     Coordinated {
         number: processor,
-        coordinates: coordinates,
+        coordinates,
     }
 }
 
@@ -55,24 +51,20 @@ fn to_add(up: bool, m: u32, entry: u32) -> u32
     modulo(m, m - entry)
 }
 
-// The stride along place k, up or down.
-pub fn stride_along(plan: Plan, k: usize, up: bool) -> Stride
-    requires { (Shaped plan) × (k < plan.d) }
-    ensures { Strides plan k up result }
+// The stride along a dimension, up or down.
+pub fn stride_along(axis: Axis, up: bool) -> Stride
+    ensures { Strides axis.shaped.plan axis.k up result }
 {
-    let d = plan.d;
+    let plan = &axis.shaped.plan;
     let mut moduli = [1; 5];
     let mut added = [0; 5];
-    for i in 0..d {
-        let m = plan.moduli[i];
-        let at = i * 5 + k;
-        moduli[i] = m;
-        added[i] = to_add(up, m, plan.matrix[at]);
+    // An index beside the item: it is the place that is written, in two lists.
+    for (i, m) in plan.moduli[..plan.d].iter().enumerate() {
+        let at = i * 5 + axis.k;
+        moduli[i] = *m;
+        added[i] = to_add(up, *m, plan.matrix[at]);
     }
-    Stride {
-        moduli: moduli,
-        added: added,
-    }
+    Stride { moduli, added }
 }
 
 // The neighbour, one stride on.
@@ -82,14 +74,14 @@ pub fn next(stride: Stride, from: Coordinated) -> Coordinated
 {
     let mut number: u32 = 0;
     let mut coordinates = [0; 5];
-    for i in 0..5 {
-        let m = stride.moduli[i];
-        let c = modulo(m, from.coordinates[i] + stride.added[i]);
+    // An index beside the item: of a list that is written through `iter_mut().zip(..)` a proof knows only the length.
+    for (i, m) in stride.moduli.iter().enumerate() {
+        let c = modulo(*m, from.coordinates[i] + stride.added[i]);
         coordinates[i] = c;
-        number = number * m + c;
+        number = number * *m + c;
     }
     Coordinated {
-        number: number,
-        coordinates: coordinates,
+        number,
+        coordinates,
     }
 }

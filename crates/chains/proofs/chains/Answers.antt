@@ -1,12 +1,8 @@
 -- `chains` meets its contract: the walk goes on to stage 0.
-use native.Mathlib.Omega.{arith}
 use Rattle.multipartition.proofs.Stages.{stage_answer_end}
 use Rattle.layout.specs.Plans.{layout_of}
 use lib.ListN.{length}
 use Rattle.chains.proofs.chains.Goals as goal
-
-pub chains_to-requires : goal.chains_to-requires
-chains_to-requires c = omega arith
 
 pub returns : goal.returns
 returns c =

@@ -1,36 +1,33 @@
 -- `table` meets its contract.
+use mathlib.Core.Path.{◌≡◌, ◌∙◌}
+use mathlib.Core.Bool.{false}
 use native.Mathlib.Omega.{arith}
-use borrow.Author.Rules.{rules}
+use lib.ListN.{length-set}
+use Rattle.multipartition.specs.Neighbours.{next_owner}
 use Rattle.layout.specs.Plans.{layout_of}
-use Rattle.questions.proofs.Bounds.{reduced_of_shaped}
-use Rattle.chains.proofs.Counting.{next_below, partly_start, partly_more, partly_end}
+use Rattle.chains.proofs.Counting.{next_below, tabled_made}
+use Rattle.chains.proofs.Filling.{places_more}
 use Rattle.chains.proofs.table.Goals as goal
 
-pub loop-q-init : goal.loop-q-init
-loop-q-init c = (omega arith, partly_start c.args.plan c.args.k c.args.c c.args.downs.now c.requires.3)
-
-pub neighbour_number-below-requires : goal.neighbour_number-below-requires
-neighbour_number-below-requires c =
-    (reduced_of_shaped c.args.plan c.requires.0, search rules, c.requires.1)
-
-pub overflow_cast-downs : goal.overflow_cast-downs
+pub overflow_cast-below : goal.overflow_cast-below
 unfolding layout_of
-overflow_cast-downs c =
-    let l = c.loop-q in
-    omega (arith, c.neighbour_number-below.ensures, next_below c.args.plan c.requires.0 c.args.k l.q, c.requires.0.p_high)
-
-pub bounds-downs-at : goal.bounds-downs-at
-bounds-downs-at c =
-    omega (arith, c.requires.2, c.requires.0.p_high, c.loop-q-test.true)
+overflow_cast-below c =
+    let a = c.args.axis.now in
+    omega (arith, rw (c.owners-owners.ensures.d_is, c.owners-owners.ensures.moduli_are, c.owners-owners.ensures.matrix_are) at c.neighbour.ensures, next_below a.shaped.plan a.shaped.shaped a.k c.loop-q.q, a.shaped.shaped.p_high)
 
 pub loop-q-preserved : goal.loop-q-preserved
 unfolding layout_of
 loop-q-preserved c =
-    let l = c.loop-q in
-    let inside = c.loop-q-test.true in
-    (omega arith, rw c.neighbour_number-below.ensures (partly_more c.args.plan c.args.k c.args.c c.args.downs.now l.q l.downs c.requires.2 inside c.requires.0.p_high l.invariant.1))
+    let l = c.loop-q in (
+      length-set l.below-items l.q _ ∙ l.invariant.0,
+      places_more (λ r x. x ≡ next_owner (layout_of c.args.axis.now.shaped.plan).moduli (layout_of c.args.axis.now.shaped.plan).matrix c.args.axis.now.k false r) l.below-items l.q _
+          (omega (arith, l.auto.below-items, c.loop-q-test.true)) l.invariant.1
+          (rw (c.owners-owners.ensures.d_is, c.owners-owners.ensures.moduli_are, c.owners-owners.ensures.matrix_are) at c.neighbour.ensures),
+    )
 
 pub returns : goal.returns
 returns c =
     let l = c.loop-q in
-    partly_end c.args.plan c.args.k c.args.c c.args.downs.now l.q l.downs (omega arith) l.invariant.1
+    let a = c.args.axis.now in
+    tabled_made a.shaped.plan a.k c.args.c _ c.args.downs.now l.below-items c.requires.0 a.shaped.shaped.p_high c.told-downs (omega arith) l.invariant.0
+    (λ r m. l.invariant.1 r (omega (arith, m, l.auto.below-items, l.invariant.0, c.loop-q-test.false)))

@@ -1,5 +1,5 @@
 -- `visit_above` meets its contract: the grid is one block.
-use mathlib.Core.Path.{◌≡◌, refl, sym, ap, ◌∙◌, subst⁻¹}
+use mathlib.Core.Path.{◌≡◌, sym, ap, ◌∙◌}
 use mathlib.Core.List.{List}
 use Prim.Native.Nat.{ℕ, ◌-◌, ◌≤◌, max}
 use native.Mathlib.Omega.{arith}
@@ -9,7 +9,7 @@ use Rattle.multipartition.specs.Plans.{tiles_of}
 use Rattle.multipartition.specs.Questions.{tile_owner}
 use Rattle.multipartition.proofs.Stages.{heads-length, nexts-length}
 use Rattle.layout.specs.Plans.{layout_of}
-use Rattle.chains.specs.Walks.{block_size, Tables, Leaps, Led, Walks}
+use Rattle.chains.specs.Walks.{block_size, Led, Walks}
 use Rattle.chains.proofs.visit_above.Goals as goal
 
 -- a walk over the whole grid, of n tiles
@@ -21,23 +21,17 @@ walked counts downs heads nexts heads' nexts' own n p q stop top long many top_i
     let last : max stop (top - block_size counts 5) ≡ stop = omega arith in
     rw (long, many, last) at (w.stages own nexts (rw long led, ap own top_is ∙ sym owner) (rw (long, many, first) stage))
 
-pub leaps-way-requires : goal.leaps-way-requires
-leaps-way-requires c =
-    (c.requires.shaped.0.p_low, c.requires.shaped.0.p_high, λ q l. c.tables-counts.ensures.tables.below 0 q (omega arith) l, refl)
-
 pub overflow_cast-top : goal.overflow_cast-top
 unfolding layout_of
-overflow_cast-top c = omega (arith, c.tile_count-top.ensures, c.requires.shaped.0.tiles_high)
+overflow_cast-top c = omega (arith, c.tile_count-top.ensures, c.args.shaped.now.shaped.tiles_high)
 
-pub walk-requires : goal.walk-requires
-walk-requires c =
-    let counted = c.tables-counts.ensures in
-    let many : length c.args.heads.now ≡ c.args.plan.p = heads-length c.requires.visited in (
+pub block-requires : goal.block-requires
+block-requires c =
+    let counted = c.tables-counts.ensures in (
       omega arith,
       omega arith,
-      subst⁻¹ (λ (n : ℕ). Tables n c.tables-counts.result c.tables-counts.new.downs) many counted.tables,
-      subst⁻¹ (λ (n : ℕ). Leaps c.leaps-way.result n c.tables-counts.new.downs c.leaps-way.new.table) many c.leaps-way.ensures,
-      omega (arith, many, c.top_owner.ensures.1),
+      heads-length c.requires.visited,
+      c.top_owner.ensures.1,
       record {
         block = 0;
         is = c.tile_count-top.ensures ∙ sym counted.whole ∙ omega arith;
@@ -48,4 +42,5 @@ walk-requires c =
 pub returns : goal.returns
 returns c =
     let counted = c.tables-counts.ensures in
-    walked _ _ c.args.heads.now c.args.nexts.now _ _ (tile_owner (layout_of c.args.plan)) (tiles_of (layout_of c.args.plan)) c.args.plan.p _ c.args.stop _ (nexts-length c.requires.visited) (heads-length c.requires.visited) c.tile_count-top.ensures counted.whole counted.led c.top_owner.ensures.0 c.requires.shaped.1 c.requires.visited c.walk.ensures.1
+    let plan = c.args.shaped.now.plan in
+    walked _ _ c.args.heads.now c.args.nexts.now _ _ (tile_owner (layout_of plan)) (tiles_of (layout_of plan)) plan.p _ c.args.stop _ (nexts-length c.requires.visited) (heads-length c.requires.visited) c.tile_count-top.ensures counted.whole counted.led c.top_owner.ensures.0 c.requires.within c.requires.visited c.block.ensures.1

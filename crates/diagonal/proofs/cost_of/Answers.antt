@@ -1,36 +1,16 @@
 -- `cost_of` meets its contract. Three dimensions cost at most 2 to the power 44 each.
-use mathlib.Core.Path.{◌≡◌, refl, sym, ap, ap₂, ◌∙◌}
-use Prim.Native.Nat.{ℕ, ◌+◌}
+use mathlib.Core.Path.{ap₂, ◌∙◌}
+use Prim.Native.Nat.{◌-◌, ◌*◌, ◌^◌, ◌≤◌}
+use native.Mathlib.Nat.{mul-le-mul, le_of_lt}
 use native.Mathlib.Omega.{arith}
-use mathlib.Core.List.{List}
-use lib.ListN.{length, take}
-use lib.Seq.{take-length}
-use Rattle.multipartition.specs.Cuts.{cost_of}
-use Rattle.diagonal.specs.Diagonal.{diagonal_cuts}
-use Rattle.diagonal.proofs.Places.{cost-add-one}
+use Rattle.diagonal.proofs.Places.{cost_is, few-sum}
 use Rattle.diagonal.proofs.cost_of.Goals as goal
 
-pub loop-k-init : goal.loop-k-init
-loop-k-init c = (omega arith, refl, refl, omega arith)
-
-pub overflow_add-cost : goal.overflow_add-cost
-overflow_add-cost c =
-    let l = c.loop-k in
-    record { fits = omega (arith, l.invariant.3, l.invariant.0, c.cut_cost-cost.ensures.1, c.requires.2) }
-
-pub loop-k-preserved : goal.loop-k-preserved
-loop-k-preserved c =
-    let l = c.loop-k in (
-      omega arith,
-      refl,
-      ap₂ ◌+◌ l.invariant.2 c.cut_cost-cost.ensures.0 ∙ sym (cost-add-one c.args.s c.args.weights.now l.k (omega arith)),
-      omega (arith, l.invariant.3, c.cut_cost-cost.ensures.1),
-    )
+pub overflow_mul-result : goal.overflow_mul-result
+overflow_mul-result c =
+    let cuts : c.args.s - 1 ≤ 2 ^ 12 = omega (arith, c.requires.1) in
+    let weight = few-sum (2 ^ 32) c.args.weights.now (λ k. le_of_lt (c.type_inv.weights k).fits) in
+    record { fits = rw (c.from.ensures, c.total.ensures) (omega (arith, mul-le-mul cuts weight, c.requires.2)) }
 
 pub returns : goal.returns
-returns c =
-    let w = c.args.weights.now in
-    let all : c.loop-k.k ≡ length w = omega arith in
-    c.loop-k.invariant.2
-    ∙ ap (λ (n : ℕ). cost_of (take n w) (diagonal_cuts n c.args.s)) all
-    ∙ ap (λ (ws : List ℕ). cost_of ws (diagonal_cuts (length w) c.args.s)) (take-length w)
+returns c = ap₂ ◌*◌ c.from.ensures c.total.ensures ∙ cost_is c.args.s c.args.weights.now

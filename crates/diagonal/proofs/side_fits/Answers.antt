@@ -1,17 +1,18 @@
 -- `side_fits` meets its contract.
-use mathlib.Core.Path.{◌≡◌, refl, sym}
-use native.Mathlib.Omega.{arith}
-use lib.ListN.{length}
-use Rattle.layout.proofs.Lists.{all_none, all-add-one}
-use Rattle.diagonal.specs.Diagonal.{side_fits}
+use borrow.Author.Tests.{tests}
+use lib.Dec.{leb}
+use mathlib.Core.Bool.{true, false}
+use mathlib.Core.Path.{◌≡◌}
+use Prim.Native.Nat.{ℕ, ◌*◌}
+use Rattle.std.proofs.Common.{rules}
+use Rattle.std.proofs.lemmas.Iterator.{YieldsList-from_slice, YieldsList-from_zip, cases_from_all}
+use Rattle.diagonal.proofs.Fits.{side_fits-iterated}
 use Rattle.diagonal.proofs.side_fits.Goals as goal
 
-pub loop-k-init : goal.loop-k-init
-loop-k-init c = (omega arith, refl, sym (all_none _))
-
-pub loop-k-preserved : goal.loop-k-preserved
-loop-k-preserved c = (omega arith, refl, rw (all-add-one, c.slabs_fit-ok.ensures) (cc))
-
 pub returns : goal.returns
-unfolding side_fits
-returns c = let e : c.loop-k.k ≡ length c.args.extents.now = omega arith in (cc)
+returns c =
+    let s = c.args.s in
+    side_fits-iterated s c.args.extents.now c.args.least.now c.requires c.all.result
+    (cases_from_all c.all.new.self _ _ (λ (p : ℕ × ℕ). leb (s * p.1) p.0 ≡ true) (λ (p : ℕ × ℕ). leb (s * p.1) p.0 ≡ false) c.all.ensures.ran
+    (YieldsList-from_zip (YieldsList-from_slice c.args.extents.now cc) (YieldsList-from_slice c.args.least.now cc))
+    (λ x q k. search (rules, tests)) (λ x q k. search (rules, tests)))

@@ -6,17 +6,10 @@ use Rattle.diagonal.specs.Diagonal.{suited_side}
 use Rattle.diagonal.proofs.Sides.{suits_facts, unsuited, suited-2}
 use Rattle.diagonal.proofs.side_of.Goals as goal
 
-pub returns-then-d-eq2 : goal.returns-then-d-eq2
-returns-then-d-eq2 c =
+pub returns-in-2 : goal.returns-in-2
+returns-in-2 c =
     let a = c.args in
-    sym (ap (λ (d : ℕ). suited_side d a.p) c.if-d-eq2.true ∙ suited-2 a.p c.requires.1)
+    sym (ap (λ (d : ℕ). suited_side d a.p) c.in-2.is ∙ suited-2 a.p c.requires.1)
 
-pub returns-then-d-eq3 : goal.returns-then-d-eq3
-returns-then-d-eq3 c =
-    let a = c.args in
-    c.square_side.ensures ∙ sym (ap (λ (d : ℕ). suited_side d a.p) c.if-d-eq3.true)
-
-pub returns : goal.returns
-returns c =
-    let a = c.args in
-    sym (unsuited a.d a.p (λ e. omega (arith, ((suits_facts a.d a.p).0 e).high, c.requires.0, c.if-d-eq2.false, c.if-d-eq3.false)))
+pub returns-in_default : goal.returns-in_default
+returns-in_default c = unsuited c.args.d c.args.p (λ e. let h = (suits_facts c.args.d c.args.p).0 e in omega (arith, h.low, h.high))

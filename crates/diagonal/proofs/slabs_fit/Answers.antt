@@ -8,4 +8,4 @@ pub overflow_mul-result : goal.overflow_mul-result
 overflow_mul-result c =
     let slabs : c.args.s ≤ 4294967295 = omega (arith, c.ranges.s.fits) in
     let least : c.args.least ≤ 4294967295 = omega (arith, c.ranges.least.fits) in
-    record { fits = omega (arith, mul-le-mul slabs least) }
+    record { fits = rw (c.from.ensures, c.from-2.ensures) (omega (arith, mul-le-mul slabs least)) }

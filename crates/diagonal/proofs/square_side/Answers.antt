@@ -26,7 +26,7 @@ pub returns-then-s-p : goal.returns-then-s-p
 returns-then-s-p c =
     root-found c.args.p c.loop-s.s c.requires.0 c.if-s-p.true
 
-pub returns : goal.returns
-returns c =
+pub returns-else-s-p : goal.returns-else-s-p
+returns-else-s-p c =
     let l = c.loop-s in
     root_none c.args.p l.s (omega (arith, l.invariant.1, c.if-s-p.false)) (omega (arith, c.loop-s-test.false))

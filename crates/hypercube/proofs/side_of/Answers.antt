@@ -1,8 +1,9 @@
 -- `hypercube::side_of` meets its contract. Assumes nothing.
 use mathlib.Core.Path.{refl, sym, ap, ◌∙◌}
-use Prim.Native.Nat.{ℕ, ◌^◌, ◌≤◌}
+use Prim.Native.Nat.{◌≤◌}
 use native.Mathlib.Omega.{arith}
-use Rattle.hypercube.proofs.Exponents.{power-next, powers_high, exponent_iff, from_start, from_next, from_end}
+use Rattle.std.specs.Prelude.{Some}
+use Rattle.hypercube.proofs.Exponents.{power-next, powers_high, exponent_iff, from_start, from_next, from_end, a_side, no_side}
 use Rattle.hypercube.proofs.side_of.Goals as goal
 
 pub loop-e-init : goal.loop-e-init
@@ -12,10 +13,10 @@ pub returns-then-power-p : goal.returns-then-power-p
 returns-then-power-p c =
     let at = c.loop-e in
     let high : at.e ≤ 6 = omega arith in
-    at.invariant.2 ∙ ap (λ (n : ℕ). 2 ^ n) (sym ((exponent_iff _ at.e high).1 (sym at.invariant.1 ∙ c.if-power-p.true)))
+    ap Some at.invariant.2 ∙ sym (a_side _ at.e high ((exponent_iff _ at.e high).1 (sym at.invariant.1 ∙ c.if-power-p.true)))
 
 pub overflow_mul-power : goal.overflow_mul-power
-overflow_mul-power c = omega (arith, (powers_high c.loop-e.e (omega arith)).0)
+overflow_mul-power c = record { fits = omega (arith, (powers_high c.loop-e.e (omega arith)).0) }
 
 pub overflow_mul-side : goal.overflow_mul-side
 overflow_mul-side c = omega (arith, (powers_high c.loop-e.e (omega arith)).1)
@@ -32,4 +33,4 @@ loop-e-preserved c =
 pub returns : goal.returns
 returns c =
     let at = c.loop-e in
-    at.invariant.2 ∙ ap (λ (n : ℕ). 2 ^ n) (sym (from_end _ at.e (omega arith) at.invariant.3))
+    sym (no_side _ at.e (omega arith) (from_end _ at.e (omega arith) at.invariant.3))

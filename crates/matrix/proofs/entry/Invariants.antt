@@ -8,6 +8,3 @@ use Rattle.matrix.proofs.entry.Given as goal
 abbrev pub invariant-loop-j : goal.invariant-loop-j
 invariant-loop-j l =
     (l.j ≤ l.i) × (l.x ≤ 4096) × ((cuts moduli : List ℕ) → Before l.p cuts moduli l.rows l.i l.c → Multipliers cuts moduli l.ts l.i → Taking l.p cuts moduli l.i l.c l.x l.j)
-
-abbrev pub decreases-loop-j : goal.decreases-loop-j
-decreases-loop-j l = l.j

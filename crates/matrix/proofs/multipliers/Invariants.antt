@@ -4,6 +4,3 @@ use Rattle.matrix.proofs.multipliers.Given as goal
 
 abbrev pub invariant-loop-j : goal.invariant-loop-j
 invariant-loop-j l = Multiplied l.cuts l.moduli l.i l.ts l.r l.j
-
-abbrev pub decreases-loop-j : goal.decreases-loop-j
-decreases-loop-j l = l.j

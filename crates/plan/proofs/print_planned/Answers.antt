@@ -1,12 +1,11 @@
--- `plan::print_planned` meets its contract: the definition's test is the code's.
-use borrow.Author.Tests.{eq-eqb, ne_eqb}
+-- `plan::print_planned` meets its contract, by the cases of the planner's answer.
 use Rattle.plan.specs.Printed.{planned_answer}
 use Rattle.plan.proofs.print_planned.Goals as goal
 
-pub returns-then-planned-ne0 : goal.returns-then-planned-ne0
+pub returns-in-Ok : goal.returns-in-Ok
 unfolding planned_answer
-returns-then-planned-ne0 c = rw (ne_eqb _ _ c.if-planned-ne0.true) c.print_refused.ensures
+returns-in-Ok c = rw c.in-Ok.is c.print_plan.ensures
 
-pub returns : goal.returns
+pub returns-in-Err : goal.returns-in-Err
 unfolding planned_answer
-returns c = rw (eq-eqb _ _ c.if-planned-ne0.false) c.print_plan.ensures
+returns-in-Err c = rw c.in-Err.is c.print_refusal.ensures

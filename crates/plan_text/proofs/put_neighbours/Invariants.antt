@@ -1,9 +1,9 @@
--- `plan_text::put_neighbours` meets its contract. The invariant: the line's first q numbers are written.
+-- `plan_text::put_neighbours` meets its contract. The invariant: the numbers of the further processors below q are put.
 use mathlib.Core.Bool.{true}
-use Prim.Native.Nat.{ℕ, ◌≤◌, ◌-◌}
+use Prim.Native.Nat.{ℕ, ◌-◌}
 use lib.ListN.{take}
-use Rattle.numerals.specs.Output.{Written}
-use Rattle.numerals.proofs.Lines.{line_front}
+use Rattle.numerals.specs.Puts.{Puts}
+use Rattle.numerals.proofs.Lines.{followed}
 use Rattle.multipartition.specs.Lists.{list_of}
 use Rattle.multipartition.specs.Neighbours.{next_owner}
 use Rattle.layout.specs.declared.Plan.{Plan}
@@ -15,7 +15,4 @@ abbrev pub next_of : Plan → ℕ → ℕ → ℕ
 next_of plan k = next_owner (take plan.d plan.moduli) (rows_from plan.d 0 plan.d plan.matrix) k true
 
 abbrev pub invariant-loop-q : goal.invariant-loop-q
-invariant-loop-q l = (l.q ≤ l.plan.p) × Written l.initial.out l.at (line_front l.q (list_of 0 l.plan.p (next_of l.plan l.k))) l.out l.next
-
-abbrev pub decreases-loop-q : goal.decreases-loop-q
-decreases-loop-q l = l.plan.p - l.q
+invariant-loop-q l = Puts l.initial.out (followed (list_of 1 (l.q - 1) (next_of l.fn.axis.shaped.plan l.fn.axis.k))) l.out

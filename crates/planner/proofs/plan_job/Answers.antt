@@ -1,34 +1,30 @@
--- `plan_job` meets its contract: the line of the table that turns the job down, or the answer.
+-- `plan_job` meets its contract: the checks, then the plan.
 use mathlib.Core.Path.{sym, ap, ◌∙◌}
-use Prim.Native.Nat.{ℕ}
-use Rattle.multipartition.specs.Cuts.{cheapest}
-use Rattle.multipartition.specs.Plans.{Job, least_of, job_with}
-use Rattle.multipartition.specs.Jobs.{plan_with}
-use Rattle.multipartition.proofs.Jobs.{plan_of_passed}
-use Rattle.planner.specs.Planned.{planned_of}
-use Rattle.planner.proofs.Answers.{ready, turned_refused, turned_passed}
+use mathlib.Core.List.{[]}
+use Rattle.std.proofs.lemmas.Result.{err_from_is_err_and}
+use Rattle.multipartition.specs.Jobs.{job_checks, cheapest_for, plan_with, plan_answer}
+use Rattle.multipartition.specs.Plans.{Job}
+use Rattle.refusals.proofs.Laws.{turned_back-on, passed-on}
+use Rattle.planner.specs.Asked.{asked}
+use Rattle.planner.specs.Planned.{planned_answer}
+use Rattle.planner.proofs.Checks.{planned-checked}
 use Rattle.planner.proofs.plan_job.Goals as goal
-use Rattle.planner.proofs.plan_job.Goals.{Start}
 
-abbrev job : Start → Job
-job s = let a = s.args in job_with a.p a.d a.extents.now a.weights.now a.least.now
-
-pub returns-then-turned-ne0 : goal.returns-then-turned-ne0
-returns-then-turned-ne0 c =
-    let t = c.turned_down-turned in
-    c.refused.ensures ∙ sym (ap planned_of (turned_refused (job (goal.at.returns-then-turned-ne0 c).Start) t.result t.ensures c.if-turned-ne0.true))
-
-pub answer-requires : goal.answer-requires
-answer-requires c =
-    let t = c.turned_down-turned in
-    ready c.args.p c.args.d c.args.extents.now c.args.weights.now c.args.least.now (turned_passed (job (goal.at.answer-requires c).Start) t.result t.ensures c.if-turned-ne0.false)
+pub returns-in_err-passed : goal.returns-in_err-passed
+unfolding plan_answer
+returns-in_err-passed c =
+    let job = asked c.args.job in
+    let p = err_from_is_err_and c.from_residual.result c.from_residual.ensures.1 in
+    rw (p.1, p.2)
+    (turned_back-on (job_checks job) [] job (planned_answer (plan_with job (cheapest_for job))) c.in_err-passed.ensures
+    ∙ sym (planned-checked (job_checks job) (plan_with job (cheapest_for job))))
 
 pub returns : goal.returns
+unfolding plan_answer
 returns c =
-    let a = c.args in
-    let t = c.turned_down-turned in
-    let all = turned_passed (job (goal.at.returns c).Start) t.result t.ensures c.if-turned-ne0.false in
-    c.answer.ensures
-    ∙ ap (λ (d : ℕ). planned_of (plan_with (job_with a.p d a.extents.now a.weights.now a.least.now) (cheapest a.p a.extents.now (least_of d a.least.now) a.weights.now)))
-    all.extents_many
-    ∙ sym (ap planned_of (plan_of_passed (job (goal.at.returns c).Start) all))
+    let job = asked c.args.job in
+    let on = passed-on (job_checks job) [] job _ (planned_answer (plan_with job (cheapest_for job))) c.in_ok-passed.ensures in
+    c.plan.ensures
+    ∙ ap (λ (j : Job). planned_answer (plan_with j (cheapest_for j))) on.0
+    ∙ sym on.1
+    ∙ sym (planned-checked (job_checks job) (plan_with job (cheapest_for job)))

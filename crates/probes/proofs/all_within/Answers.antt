@@ -9,22 +9,18 @@ use Rattle.multipartition.specs.Lists.{all_below}
 use Rattle.probes.specs.Probes.{all_within}
 use Rattle.probes.proofs.all_within.Goals as goal
 
-pub loop-i-init : goal.loop-i-init
+pub loop-element-init : goal.loop-element-init
 unfolding all_below
-loop-i-init c = (omega arith, refl, refl)
+loop-element-init c = refl
 
-pub loop-i-preserved : goal.loop-i-preserved
+pub loop-element-preserved : goal.loop-element-preserved
 unfolding all_below
-loop-i-preserved c =
-    let head = c.loop-i in
-    let a = c.args in
-    let here = ltb (get_or a.elements.now head.i 0) a.n in
-    (omega arith, refl, rw (add-one head.i) (ap (λ (ok : Bool). ok && here) head.invariant.2))
+loop-element-preserved c = rw (add-one c.loop-element.element-index) (ap (λ (ok : Bool). ok && ltb (get_or c.args.elements.now c.loop-element.element-index 0) c.args.n) c.loop-element.invariant)
 
 pub returns : goal.returns
 unfolding all_within
 returns c =
-    let head = c.loop-i in
+    let head = c.loop-element in
     let a = c.args in
-    let all : head.i ≡ length a.elements.now = omega arith in
-    head.invariant.2 ∙ ap (λ (i : ℕ). all_below i (λ j. ltb (get_or a.elements.now j 0) a.n)) all
+    let all : head.element-index ≡ length a.elements.now = omega arith in
+    head.invariant ∙ ap (λ (i : ℕ). all_below i (λ j. ltb (get_or a.elements.now j 0) a.n)) all

@@ -1,30 +1,28 @@
-use mathlib.Core.Path.{◌≡◌, sym, ◌∙◌}
-use Prim.Native.Nat.{suc, ◌+◌, ◌-◌}
-use native.Mathlib.Numerals.{add-one}
-use native.Mathlib.Omega.{arith}
-use Rattle.probes.proofs.Falls.{fall_start, fall_here, fall_later, fall_none}
+-- `first_fall` meets its contract.
+use Rattle.std.proofs.Common.{rules, tests, ◌≡◌, refl, sym, ◌∙◌, ℕ, ◌<◌, ◌≤◌}
+use borrow.Author.Tests.{eqb-true}
+use Rattle.std.proofs.lemmas.Iterator.{IsFirst-from_position, YieldsList-from_slice, YieldsList-from_zip}
+use Rattle.std.proofs.lemmas.Iterator.Adapters.{YieldsList-from_skip}
+use Rattle.probes.specs.Probes.{first_fall}
+use Rattle.probes.proofs.Falls.{found_none, found-at}
 use Rattle.probes.proofs.first_fall.Goals as goal
 
-pub loop-i-init : goal.loop-i-init
-loop-i-init c = (omega arith, fall_start c.args.elements.now)
+pub returns-then-rises : goal.returns-then-rises
+returns-then-rises c =
+    let none : first_fall c.args.elements.now ≡ 0 = eqb-true _ _ (sym c.rises.ensures ∙ c.if-rises.true) in
+    rw none refl
 
-pub bounds-elements-i-in-loop-i : goal.bounds-elements-i-in-loop-i
-bounds-elements-i-in-loop-i c = omega arith
-
-pub returns-then-elements-i : goal.returns-then-elements-i
-returns-then-elements-i c =
-    let head = c.loop-i in
-    let elements = c.args.elements.now in
-    add-one head.i ∙ sym (fall_here elements (suc head.i) _ head.i (omega arith) c.if-elements-i.true) ∙ head.invariant.1
-
-pub loop-i-preserved : goal.loop-i-preserved
-loop-i-preserved c =
-    let head = c.loop-i in
-    let elements = c.args.elements.now in
-    let here : head.i + 1 - 1 ≡ head.i = omega arith in
-    (omega arith, rw (here, add-one head.i) (sym (fall_later elements (suc head.i) _ head.i (omega arith) c.if-elements-i.false) ∙ head.invariant.1))
+pub returns-in_err-before : goal.returns-in_err-before
+returns-in_err-before c =
+    let xs = c.args.elements.now in
+    c.from_residual.ensures
+    ∙ found_none xs (rw c.in_err-before.was at (IsFirst-from_position c.position.new.self _ c.position.result (λ (p : ℕ × ℕ). p.1 < p.0) (λ (p : ℕ × ℕ). p.0 ≤ p.1) c.position.ensures.ran
+    (YieldsList-from_zip (YieldsList-from_slice xs cc) (YieldsList-from_skip 1 (YieldsList-from_slice xs cc) cc))
+    (λ x q k. search (rules, tests)) (λ x q k. search (rules, tests))))
 
 pub returns : goal.returns
 returns c =
-    let head = c.loop-i in
-    sym (fall_none c.args.elements.now (suc head.i) _ head.i (omega arith)) ∙ head.invariant.1
+    let xs = c.args.elements.now in
+    found-at xs c.in_ok-before.before (rw c.in_ok-before.was at (IsFirst-from_position c.position.new.self _ c.position.result (λ (p : ℕ × ℕ). p.1 < p.0) (λ (p : ℕ × ℕ). p.0 ≤ p.1) c.position.ensures.ran
+    (YieldsList-from_zip (YieldsList-from_slice xs cc) (YieldsList-from_skip 1 (YieldsList-from_slice xs cc) cc))
+    (λ x q k. search (rules, tests)) (λ x q k. search (rules, tests))))

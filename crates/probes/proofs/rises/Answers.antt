@@ -1,30 +1,31 @@
-use mathlib.Core.Path.{◌≡◌, sym, ap, ◌∙◌}
+use mathlib.Core.Path.{◌≡◌, refl, sym, ap, ◌∙◌}
 use mathlib.Core.Bool.{Bool, ◌&&◌, and_assoc, and-true}
-use Prim.Native.Nat.{ℕ, suc, ◌+◌, ◌-◌}
-use native.Mathlib.Numerals.{add-one}
+use Prim.Native.Nat.{ℕ, ◌<◌, ◌≤◌}
 use native.Mathlib.Omega.{arith}
 use lib.Dec.{eqb}
-use lib.ListN.{get_or}
-use Rattle.probes.proofs.Falls.{fall_start, fall_none, rises_next}
+use lib.ListN.{length, take}
+use Rattle.std.specs.Slice.Iter.{windows_rest}
+use Rattle.probes.proofs.Falls.{rises_pair, no_pair}
 use Rattle.probes.proofs.rises.Goals as goal
 
-pub loop-i-init : goal.loop-i-init
-loop-i-init c = (omega arith, ap (λ (place : ℕ). eqb place 0) (fall_start c.args.elements.now))
+pub loop-pair-init : goal.loop-pair-init
+loop-pair-init c =
+    let e = c.windows-pair-items.ensures in
+    rw (c.into_iter-pair-iterator.ensures.into_iter_gives, e.rest, e.size) (refl, refl)
 
-pub bounds-elements-i : goal.bounds-elements-i
-bounds-elements-i c = omega arith
-
-pub loop-i-preserved : goal.loop-i-preserved
-loop-i-preserved c =
-    let head = c.loop-i in
-    let elements = c.args.elements.now in
-    let here : head.i + 1 - 1 ≡ head.i = omega arith in
-    let next = rises_next elements (get_or elements (head.i - 1) 0) head.i (omega arith) in
-    (omega arith, rw (here, add-one head.i) (and_assoc head.ok _ _ ∙ ap (λ (t : Bool). head.ok && t) (sym next) ∙ head.invariant.1))
+pub loop-pair-preserved : goal.loop-pair-preserved
+loop-pair-preserved c =
+    let s = c.in-Some.ensures.steps in
+    let two = c.loop-pair.invariant.0 in
+    let rest = windows_rest c.loop-pair.pair-iterator in
+    let many : 2 ≤ length rest = omega (arith, two, s.1.0) in
+    let pair : c.in-Some.pair.now ≡ take 2 rest = s.1.1 ∙ ap (λ (n : ℕ). take n rest) two in
+    (s.0 ∙ two, rw (pair, s.1.2) (and_assoc c.loop-pair.ok _ _ ∙ ap (λ (t : Bool). c.loop-pair.ok && t) (rises_pair rest many) ∙ c.loop-pair.invariant.1))
 
 pub returns : goal.returns
 returns c =
-    let head = c.loop-i in
-    let elements = c.args.elements.now in
-    let none = fall_none elements (suc head.i) (get_or elements (head.i - 1) 0) head.i (omega arith) in
-    sym (and-true head.ok) ∙ ap (λ (place : ℕ). head.ok && eqb place 0) (sym none) ∙ head.invariant.1
+    let s = c.in-None.ensures.steps in
+    let two = c.loop-pair.invariant.0 in
+    let rest = windows_rest c.loop-pair.pair-iterator in
+    let few : length rest < 2 = omega (arith, two, s.1.0) in
+    sym (and-true c.loop-pair.ok) ∙ ap (λ (place : ℕ). c.loop-pair.ok && eqb place 0) (sym (no_pair rest few)) ∙ c.loop-pair.invariant.1

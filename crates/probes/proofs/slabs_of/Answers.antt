@@ -1,39 +1,76 @@
 -- `slabs_of` meets its contract.
-use mathlib.Core.Path.{ap}
-use mathlib.Core.Bool.{not}
-use mathlib.Core.Path.{sym, ◌∙◌}
-use native.Mathlib.Omega.{arith}
-use borrow.Author.Tests.{not-false}
-use Rattle.tiles.proofs.Numbering.{fails_shape, passes_shape, fails_dimension, passes_dimension, Placed}
-use Rattle.probes.proofs.Outcomes.{refused-6, refused_7}
+use Rattle.std.proofs.Common.{rules, arith, ◌≡◌, refl, sym, ◌∙◌, Err, ◌≤◌, ◌<◌}
+use borrow.Author.Tests.{le-leb, lt-leb, eq-eqb}
+use lib.ListN.{length}
+use Rattle.probes.proofs.Falls.{no_fall_iff}
+use Rattle.probes.proofs.Outcomes.{turned_back, passed, fall_none, fall_some}
+use Rattle.probes.proofs.Ranges.{all_within_iff}
+use Rattle.tiles.proofs.Along.{answers-refused}
 use Rattle.probes.proofs.slabs_of.Goals as goal
-use Rattle.probes.proofs.slabs_of.Goals.{Else-not-has_dimension}
 
--- once both checks have passed, the dimension has a place
-placed : (c : Else-not-has_dimension) → Placed c.args.plan c.args.dimension
-placed c =
-    let test = c.has_dimension in
-    passes_dimension _ _ test.result test.ensures (ap not c.if-not-has_dimension.false)
-
-pub returns-then-not-in_shape : goal.returns-then-not-in_shape
-returns-then-not-in_shape c =
-    let test = c.in_shape in
-    refused-6 _ _ _ _ (fails_shape _ test.result test.ensures (ap not c.if-not-in_shape.true))
-
-pub returns-then-not-has_dimension : goal.returns-then-not-has_dimension
-returns-then-not-has_dimension c =
-    let shape = c.in_shape in
-    let test = c.has_dimension in
+pub returns-in_err-along : goal.returns-in_err-along
+returns-in_err-along c =
     let a = c.args in
-    refused_7 _ _ _ _ (sym shape.ensures ∙ not-false shape.result (ap not c.if-not-in_shape.false)) (fails_dimension a.plan a.dimension test.result test.ensures (ap not c.if-not-has_dimension.true))
+    let back : c.from_residual.result ≡ Err c.in_err-along.field-0.0 = search rules in
+    rw back (answers-refused _ a.slabs.now _ (turned_back a.plan a.dimension a.elements.now a.slabs.now c.in_err-along.ensures))
 
-pub overflow_sub-dimension : goal.overflow_sub-dimension
-overflow_sub-dimension c = omega (arith, (placed c).low)
+pub returns-then-not-all_within : goal.returns-then-not-all_within
+returns-then-not-all_within c =
+    let a = c.args in
+    let along = c.in_ok-along.along in
+    rw (
+      passed a.plan a.dimension a.elements.now a.slabs.now along.extent along.cut c.in_ok-along.ensures,
+      sym c.all_within.ensures ∙ c.if-not-all_within.true,
+    )
+    (record { told = refl; held = refl })
 
-pub slabs_along-requires : goal.slabs_along-requires
-slabs_along-requires c =
-    let shape = c.in_shape in
-    (passes_shape _ shape.result shape.ensures (ap not c.if-not-in_shape.false), omega (arith, (placed (goal.at.slabs_along-requires c).Else-not-has_dimension).below))
+pub returns-then-slabs-elements : goal.returns-then-slabs-elements
+returns-then-slabs-elements c =
+    let a = c.args in
+    let along = c.in_ok-along.along in
+    let short : length a.slabs.now < length a.elements.now = omega (arith, c.if-slabs-elements.true) in
+    rw (
+      passed a.plan a.dimension a.elements.now a.slabs.now along.extent along.cut c.in_ok-along.ensures,
+      sym c.all_within.ensures ∙ c.if-not-all_within.false,
+      lt-leb _ _ short,
+    )
+    (record { told = refl; held = refl })
+
+pub returns-in-Some : goal.returns-in-Some
+returns-in-Some c =
+    let a = c.args in
+    let along = c.in_ok-along.along in
+    let falls = fall_some a.elements.now c.in-Some.place c.in-Some.ensures in
+    let room : length a.elements.now ≤ length a.slabs.now = omega (arith, c.if-slabs-elements.false) in
+    rw (
+      passed a.plan a.dimension a.elements.now a.slabs.now along.extent along.cut c.in_ok-along.ensures,
+      sym c.all_within.ensures ∙ c.if-not-all_within.false,
+      le-leb _ _ room,
+      falls.1,
+      falls.0,
+    )
+    (record { told = refl; held = refl })
+
+pub fill-requires : goal.fill-requires
+fill-requires c =
+    let elements = c.args.elements.now in (
+      record {
+        within = (all_within_iff _ elements).0 (sym c.all_within.ensures ∙ c.if-not-all_within.false);
+        rises = (no_fall_iff elements).0 (fall_none elements c.in_default.ensures);
+      },
+      omega (arith, c.if-slabs-elements.false),
+    )
 
 pub returns : goal.returns
-returns c = rw (placed (goal.at.returns c).Else-not-has_dimension).back at c.slabs_along.ensures
+returns c =
+    let a = c.args in
+    let along = c.in_ok-along.along in
+    let long : length a.elements.now ≤ length a.slabs.now = omega (arith, c.if-slabs-elements.false) in
+    rw (
+      passed a.plan a.dimension a.elements.now a.slabs.now along.extent along.cut c.in_ok-along.ensures,
+      sym c.all_within.ensures ∙ c.if-not-all_within.false,
+      le-leb _ _ long,
+      eq-eqb _ _ (fall_none a.elements.now c.in_default.ensures),
+      c.fill.ensures,
+    )
+    (record { told = refl; held = refl })

@@ -1,17 +1,8 @@
 -- `questions::neighbour_of` meets its contract. Assumes nothing.
 use borrow.Author.Rules.{rules}
-use mathlib.Core.Path.{ap, ◌∙◌}
-use Rattle.layout.specs.declared.Plan.{Plan}
-use Rattle.layout.specs.Plans.{layout_of}
-use Rattle.multipartition.specs.Plans.{in_shape}
-use Rattle.multipartition.specs.Questions.{neighbour_answer}
-use Rattle.layout.proofs.Lent.{plan_over_lem}
+use mathlib.Core.Path.{◌∙◌}
+use Rattle.questions.proofs.Lent.{neighbour_of_whole}
 use Rattle.questions.proofs.neighbour_of.Goals as goal
 
 pub returns : goal.returns
-unfolding neighbour_answer in_shape layout_of
-returns c =
-    let a = c.args in
-    let plan = a.plan in
-    c.neighbour_over.ensures
-    ∙ ap (λ (q : Plan). neighbour_answer (layout_of q) a.processor a.dimension a.up) (plan_over_lem plan.extents plan.cuts plan.moduli plan.matrix plan.least plan.d plan.p plan.kind (search rules))
+returns c = c.neighbour_over.ensures ∙ neighbour_of_whole c.args.plan c.lists.result c.lists.ensures.lent (search rules) c.args.processor c.args.dimension c.args.up

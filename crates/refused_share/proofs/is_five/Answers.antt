@@ -1,19 +1,12 @@
--- `refused_share::is_five` meets its contract. Assumes nothing.
-use mathlib.Core.Bool.{not}
-use mathlib.Core.Path.{ap, ◌∙◌}
-use lib.ListN.{length}
-use Rattle.multipartition.specs.Plans.{job_with}
-use Rattle.planner.proofs.Answers.{ready}
+-- `is_five` meets its contract.
+use mathlib.Core.Path.{sym, ap, ◌∙◌}
+use mathlib.Core.Bool.{not, not-not}
+use Rattle.std.specs.Option.{is_some}
+use Rattle.planner.specs.Planned.{passed_job}
 use Rattle.refused_share.proofs.Shares.{five_test}
 use Rattle.refused_share.proofs.is_five.Goals as goal
 
-pub cuts_of-found-requires : goal.cuts_of-found-requires
-cuts_of-found-requires c =
-    let a = c.args in
-    ready a.p (length a.extents.now) a.extents.now a.weights.now a.least.now c.requires
-
 pub returns : goal.returns
 returns c =
-    let a = c.args in
-    ap not c.cuts_of-found.ensures.ok_is
-    ∙ five_test (job_with a.p (length a.extents.now) a.extents.now a.weights.now a.least.now) c.requires
+    sym (not-not c.is_none.result) ∙ ap not (sym c.is_none.ensures) ∙ ap (λ o. not (is_some o)) c.cuts_of.ensures
+    ∙ five_test (passed_job c.args.passed) c.requires

@@ -1,57 +1,40 @@
--- `refused_share::smallest` meets its contract. Assumes nothing.
-use mathlib.Core.Bool.{Bool, false}
-use mathlib.Core.List.{List}
-use mathlib.Core.Logic.{⊎_elim}
-use mathlib.Core.Path.{◌≡◌, sym, ◌∙◌, subst}
-use Prim.Native.Nat.{ℕ, suc, ◌+◌, ◌-◌, ◌≤◌, ◌<◌}
-use native.Mathlib.Nat.{eq-or-lt_of_le}
+-- `smallest` meets its contract.
+use mathlib.Core.Path.{◌≡◌, sym, ◌∙◌}
 use native.Mathlib.Omega.{arith}
-use lib.ListN.{length, get_or}
-use Rattle.multipartition.specs.Plans.{job_with}
-use Rattle.multipartition.specs.Jobs.{plan_answer}
-use Rattle.refused_share.specs.Shares.{is_five}
-use Rattle.refused_share.proofs.Shares.{listed_few, listed_passed, smallest_listed, smallest_last}
+use Rattle.numbers.specs.Divisors.{divisors_answer}
+use Rattle.planner.specs.Planned.{passed_job}
+use Rattle.planner.proofs.Checks.{measured_of-passed}
+use Rattle.refused_share.proofs.Shares.{listed_some, listed_passed, smallest_listed, smallest_last}
 use Rattle.refused_share.proofs.smallest.Goals as goal
+use Rattle.refused_share.proofs.smallest.Goals.{After-as_slice-places}
 
-one_more : (Q : ℕ → Type 0) (k : ℕ) → 1 ≤ k → ((i : ℕ) → suc i < k → Q i) → Q (k - 1) → (i : ℕ) → suc i < k + 1 → Q i
-one_more Q k low before here i l =
-    ⊎_elim (λ (e : suc i ≡ k). subst Q (omega arith) here) (λ h. before i h) (eq-or-lt_of_le (omega arith))
+-- the divisors
+listed : (c : After-as_slice-places) → c.as_slice-places.result.now ≡ divisors_answer c.args.passed.job.p
+listed c = c.as_slice-places.ensures.value ∙ c.divisors-found.ensures
 
-pub loop-k-init : goal.loop-k-init
-loop-k-init c = (omega arith, λ i l. absurd (omega arith))
+pub slice_bounds-x-items-count : goal.slice_bounds-x-items-count
+slice_bounds-x-items-count c =
+    listed_some (passed_job c.args.passed) c.requires c.as_slice-places.result.now (listed (goal.at.slice_bounds-x-items-count c).After-as_slice-places)
 
-pub offset_bounds-of-k : goal.offset_bounds-of-k
-offset_bounds-of-k c =
-    let found = c.divisors-found in
-    omega (arith, listed_few _ c.requires _ _ found.ensures)
-
-pub bounds-of-k : goal.bounds-of-k
-bounds-of-k c =
-    let found = c.divisors-found in
-    omega (arith, listed_few _ c.requires _ _ found.ensures)
+pub invariant_of-share : goal.invariant_of-share
+invariant_of-share c = record {
+  measured =
+      measured_of-passed _
+      (listed_passed (passed_job c.args.passed) c.requires c.as_slice-places.result.now (listed (goal.at.invariant_of-share c).After-as_slice-places)
+      c.loop-x.x-index (omega (arith, c.loop-x-test.true)));
+}
 
 pub is_five-requires : goal.is_five-requires
 is_five-requires c =
-    let found = c.divisors-found in
-    listed_passed _ c.requires _ _ found.ensures _ (omega arith)
+    listed_passed (passed_job c.args.passed) c.requires c.as_slice-places.result.now (listed (goal.at.is_five-requires c).After-as_slice-places)
+    c.loop-x.x-index (omega (arith, c.loop-x-test.true))
 
 pub returns-then-is_five : goal.returns-then-is_five
 returns-then-is_five c =
-    let found = c.divisors-found in
-    let at = c.loop-k in
-    smallest_listed _ c.requires _ _ found.ensures (at.k - 1) (λ i l. at.invariant.1 i (omega arith)) (omega arith)
-    (sym c.is_five.ensures ∙ c.if-is_five.true)
-
-pub loop-k-preserved : goal.loop-k-preserved
-loop-k-preserved c =
-    let args = c.args in
-    let of : List ℕ = c.divisors-found.result.of in
-    let at = c.loop-k in
-    let test : ℕ → Bool = λ i. is_five (plan_answer (job_with (get_or of i 0) (length args.extents.now) args.extents.now args.weights.now args.least.now)) in
-    (omega arith, one_more (λ i. test i ≡ false) at.k at.invariant.0 at.invariant.1 (sym c.is_five.ensures ∙ c.if-is_five.false))
+    smallest_listed (passed_job c.args.passed) c.requires c.as_slice-places.result.now (listed (goal.at.returns-then-is_five c).After-as_slice-places)
+    c.loop-x.x-index c.loop-x.invariant (omega (arith, c.loop-x-test.true)) (sym c.is_five.ensures ∙ c.if-is_five.true)
 
 pub returns : goal.returns
 returns c =
-    let found = c.divisors-found in
-    let at = c.loop-k in
-    smallest_last _ c.requires _ _ found.ensures (at.k - 1) (λ i l. at.invariant.1 i (omega arith)) (omega arith)
+    smallest_last (passed_job c.args.passed) c.requires c.as_slice-places.result.now (listed (goal.at.returns c).After-as_slice-places)
+    c.loop-x.x-index c.loop-x.invariant c.loop-x-test.false

@@ -1,15 +1,12 @@
+-- The loop's invariant: the divisors before this one are not refused with 5.
 use mathlib.Core.Bool.{false}
 use mathlib.Core.Path.{◌≡◌}
-use Prim.Native.Nat.{ℕ, suc, ◌-◌, ◌≤◌, ◌<◌}
-use lib.ListN.{length, get_or}
-use Rattle.multipartition.specs.Plans.{job_with}
+use Prim.Native.Nat.{ℕ, ◌<◌}
+use lib.ListN.{get_or}
 use Rattle.multipartition.specs.Jobs.{plan_answer}
-use Rattle.refused_share.specs.Shares.{is_five}
+use Rattle.planner.specs.Planned.{passed_job}
+use Rattle.refused_share.specs.Shares.{is_five, job_for}
 use Rattle.refused_share.proofs.smallest.Given as goal
 
-abbrev pub invariant-loop-k : goal.invariant-loop-k
-invariant-loop-k l =
-    (1 ≤ l.k) × ((i : ℕ) → suc i < l.k → is_five (plan_answer (job_with (get_or l.of i 0) (length l.extents) l.extents l.weights l.least)) ≡ false)
-
-abbrev pub decreases-loop-k : goal.decreases-loop-k
-decreases-loop-k l = l.count - l.k
+abbrev pub invariant-loop-x : goal.invariant-loop-x
+invariant-loop-x l = (i : ℕ) → i < l.x-index → is_five (plan_answer (job_for (get_or l.x-items i 0) (passed_job l.passed))) ≡ false

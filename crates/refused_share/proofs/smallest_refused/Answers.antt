@@ -1,55 +1,45 @@
--- `refused_share::smallest_refused` meets its contract. Assumes nothing.
-use mathlib.Core.Path.{sym, ap, ◌∙◌, subst⁻¹}
+-- `smallest_refused` meets its contract.
+use mathlib.Core.Path.{◌≡◌, sym, ap, ◌∙◌}
 use mathlib.Core.Option.{some}
-use Prim.Native.Nat.{ℕ}
-use lib.ListN.{length}
+use Rattle.std.proofs.lemmas.Result.{err_from_is_err_and}
 use Rattle.multipartition.specs.Answers.{answered}
-use Rattle.multipartition.specs.Plans.{Job, job_with}
-use Rattle.multipartition.specs.Jobs.{Passed, plan_answer}
-use Rattle.planner.proofs.Answers.{turned_passed, turned_refused, turned-not-5}
-use Rattle.refused_share.specs.Shares.{is_five, share_answer}
+use Rattle.refusals.specs.Told.{number_of, place_of}
+use Rattle.planner.specs.Asked.{asked}
+use Rattle.planner.specs.Planned.{passed_job}
+use Rattle.planner.proofs.Answers.{same_job, checks_refuse, checks-not-5, checks_passed}
+use Rattle.refused_share.specs.Shares.{share_answer}
 use Rattle.refused_share.proofs.Shares.{five_iff, shown_of-five, nothing_of_passed, refused_iff}
 use Rattle.refused_share.proofs.smallest_refused.Goals as goal
-use Rattle.refused_share.proofs.smallest_refused.Goals.{Else-turned-ne0, Start}
+use Rattle.refused_share.proofs.smallest_refused.Goals.{In_ok-passed}
 
--- the job, with n dimensions
-abbrev job-in : ℕ → Start → Job
-job-in n s = let a = s.args in job_with a.p n a.extents.now a.weights.now a.least.now
+pub returns-in_err-passed : goal.returns-in_err-passed
+returns-in_err-passed c =
+    let p = err_from_is_err_and c.from_residual.result c.from_residual.ensures.1 in
+    let refusal = c.in_err-passed.field-0.0 in
+    rw (p.1, p.2)
+    (sym ((refused_iff (asked c.args.job) (number_of refusal) (place_of refusal)).1 (
+      checks_refuse (asked c.args.job) (number_of refusal) (place_of refusal) c.in_err-passed.ensures,
+      checks-not-5 (asked c.args.job) (number_of refusal) (place_of refusal) c.in_err-passed.ensures,
+    )))
 
-abbrev job : Start → Job
-job s = job-in s.args.d s
-
--- once the checks have passed
-passed : (c : Else-turned-ne0) → Passed (job c.before.before.before.before.before.before.before)
-passed c =
-    let t = c.turned_down-turned in
-    turned_passed (job c.before.before.before.before.before.before.before) t.result t.ensures c.if-turned-ne0.false
-
-by_length : (s : Start) → Passed (job s) → Passed (job-in (length s.args.extents.now) s)
-by_length s all = subst⁻¹ (λ (n : ℕ). Passed (job-in n s)) all.extents_many all
-
-pub returns-then-turned-ne0 : goal.returns-then-turned-ne0
-returns-then-turned-ne0 c =
-    let t = c.turned_down-turned in
-    sym ((refused_iff (job (goal.at.returns-then-turned-ne0 c).Start) t.result.number t.result.place).1
-    (turned_refused (job (goal.at.returns-then-turned-ne0 c).Start) t.result t.ensures c.if-turned-ne0.true, turned-not-5 (job (goal.at.returns-then-turned-ne0 c).Start) t.result t.ensures))
+-- it is the job that was asked
+same : (c : In_ok-passed) → passed_job c.in_ok-passed.passed ≡ asked c.args.job
+same c = same_job (asked c.args.job) (passed_job c.in_ok-passed.passed) c.in_ok-passed.ensures
 
 pub is_five-requires : goal.is_five-requires
-is_five-requires c = by_length (goal.at.is_five-requires c).Start (passed c)
+is_five-requires c = checks_passed (asked c.args.job) (passed_job c.in_ok-passed.passed) c.in_ok-passed.ensures
 
 pub returns-then-not-is_five : goal.returns-then-not-is_five
 returns-then-not-is_five c =
-    let all = passed (goal.at.returns-then-not-is_five c).Else-turned-ne0 in
-    sym (nothing_of_passed (job (goal.at.returns-then-not-is_five c).Start) all
-    (ap (λ (n : ℕ). is_five (plan_answer (job-in n (goal.at.returns-then-not-is_five c).Start))) (sym all.extents_many) ∙ sym c.is_five.ensures ∙ c.if-not-is_five.true))
+    sym (nothing_of_passed (passed_job c.in_ok-passed.passed) (checks_passed (asked c.args.job) (passed_job c.in_ok-passed.passed) c.in_ok-passed.ensures) (sym c.is_five.ensures ∙ c.if-not-is_five.true))
+    ∙ ap share_answer (same (goal.at.returns-then-not-is_five c).In_ok-passed)
 
 pub smallest-x-requires : goal.smallest-x-requires
-smallest-x-requires c =
-    (five_iff (job-in (length c.args.extents.now) (goal.at.smallest-x-requires c).Start)).0 (sym c.is_five.ensures ∙ c.if-not-is_five.false)
+smallest-x-requires c = (five_iff (passed_job c.in_ok-passed.passed)).0 (sym c.is_five.ensures ∙ c.if-not-is_five.false)
 
 pub returns : goal.returns
 returns c =
-    let five = (five_iff (job-in (length c.args.extents.now) (goal.at.returns c).Start)).0 (sym c.is_five.ensures ∙ c.if-not-is_five.false) in
+    let job = passed_job c.in_ok-passed.passed in
     ap (λ x. answered (some x)) c.smallest-x.ensures
-    ∙ sym (shown_of-five (job-in (length c.args.extents.now) (goal.at.returns c).Start) five)
-    ∙ ap (λ (n : ℕ). share_answer (job-in n (goal.at.returns c).Start)) (passed (goal.at.returns c).Else-turned-ne0).extents_many
+    ∙ sym (shown_of-five job ((five_iff job).0 (sym c.is_five.ensures ∙ c.if-not-is_five.false)))
+    ∙ ap share_answer (same (goal.at.returns c).In_ok-passed)

@@ -1,31 +1,25 @@
-use mathlib.Core.Path.{◌∙◌}
+-- `put_right` meets its contract: the library's digits are those of the definition.
+use mathlib.Core.Path.{◌≡◌, sym, ap, ap₂, ◌∙◌}
+use mathlib.Core.List.{List, ◌++◌, append_assoc}
+use Prim.Native.Nat.{ℕ, ◌-◌}
 use native.Mathlib.Omega.{arith}
-use lib.ListN.{length-set}
-use Rattle.sheet.proofs.Digits.{behind_none, behind_inside, behind_more, behind_all}
+use lib.ListN.{length, take, drop, take-append-drop}
+use Rattle.numerals.specs.Decimal.{decimal}
+use Rattle.numerals.proofs.Decimal.{decimal-std}
 use Rattle.sheet.proofs.put_right.Goals as goal
 
-pub overflow_sub-at : goal.overflow_sub-at
-overflow_sub-at c = (behind_none c.args.line.now _ c.args.n (omega (arith, c.requires.0, c.requires.1)) c.requires.2).0
-
-pub loop-rest-init : goal.loop-rest-init
-loop-rest-init c = (c.requires.0, (behind_none c.args.line.now _ c.args.n (omega (arith, c.requires.0, c.requires.1)) c.requires.2).1)
-
-pub bounds-line-at : goal.bounds-line-at
-bounds-line-at c = behind_inside _ _ _ _ _ _ 0 c.loop-rest.invariant.1
-
-pub overflow_sub-at-in-loop-rest : goal.overflow_sub-at-in-loop-rest
-overflow_sub-at-in-loop-rest c = let l = c.loop-rest in (behind_more _ _ _ _ _ _ _ l.invariant.1 c.loop-rest-test.true c.digit_byte.ensures).0
-
-pub loop-rest-preserved : goal.loop-rest-preserved
-loop-rest-preserved c =
-    let l = c.loop-rest in
-    (length-set l.line l.at _ ∙ l.invariant.0, (behind_more _ _ _ _ _ _ _ l.invariant.1 c.loop-rest-test.true c.digit_byte.ensures).1)
-
-pub bounds-line-at-2 : goal.bounds-line-at-2
-bounds-line-at-2 c = behind_inside _ _ _ _ _ _ 0 c.loop-rest.invariant.1
-
-pub shape_of-line : goal.shape_of-line
-shape_of-line c = let l = c.loop-rest in length-set l.line l.at _ ∙ omega (arith, l.invariant.0, c.requires.0)
+pub write_digits-requires : goal.write_digits-requires
+write_digits-requires c =
+    let same = ap length (decimal-std c.args.n c.ranges.n.fits) in
+    (omega (arith, same, c.requires.2), omega (arith, c.requires.0, c.requires.1))
 
 pub returns : goal.returns
-returns c = let l = c.loop-rest in behind_all _ _ _ _ _ _ _ l.invariant.1 c.loop-rest-test.false c.digit_byte-2.ensures
+returns c =
+    let line = c.args.line.now in
+    let w = c.write_digits in
+    let same = decimal-std c.args.n c.ranges.n.fits in
+    let place : w.result ≡ c.args.end - length (decimal c.args.n) = omega (arith, ap length same, w.ensures.start) in
+    sym (take-append-drop w.result w.new.buf)
+    ∙ ap₂ {C = List ℕ} (λ front back. front ++ back) w.ensures.before w.ensures.written
+    ∙ ap₂ {C = List ℕ} (λ k digits. take k line ++ (digits ++ drop c.args.end line)) place same
+    ∙ sym (append_assoc (take (c.args.end - length (decimal c.args.n)) line) (decimal c.args.n) (drop c.args.end line))

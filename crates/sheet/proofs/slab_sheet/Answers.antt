@@ -1,39 +1,49 @@
 -- `slab_sheet` meets its contract.
-use mathlib.Core.Path.{ap}
-use mathlib.Core.Bool.{not}
-use mathlib.Core.Path.{sym, ◌∙◌}
-use native.Mathlib.Omega.{arith}
-use borrow.Author.Tests.{not-false}
-use Rattle.tiles.proofs.Numbering.{fails_shape, passes_shape, fails_dimension, passes_dimension, Placed}
-use Rattle.sheet.proofs.Outcomes.{refused-6, refused_7}
+use Rattle.std.proofs.Common.{rules, arith, ◌≡◌, refl, Err, ◌-◌, ◌/◌, ◌≤◌, ◌<◌}
+use borrow.Author.Tests.{le-leb, lt-leb, eq-eqb, ne_eqb}
+use lib.ListN.{length}
+use Rattle.sheet.proofs.Outcomes.{turned_back, passed}
+use Rattle.tiles.proofs.Along.{answers-refused}
 use Rattle.sheet.proofs.slab_sheet.Goals as goal
-use Rattle.sheet.proofs.slab_sheet.Goals.{Else-not-has_dimension}
 
--- once both checks have passed, the dimension has a place
-placed : (c : Else-not-has_dimension) → Placed c.args.plan c.args.dimension
-placed c =
-    let test = c.has_dimension in
-    passes_dimension _ _ test.result test.ensures (ap not c.if-not-has_dimension.false)
-
-pub returns-then-not-in_shape : goal.returns-then-not-in_shape
-returns-then-not-in_shape c =
-    let test = c.in_shape in
-    refused-6 _ _ _ _ _ (fails_shape _ test.result test.ensures (ap not c.if-not-in_shape.true))
-
-pub returns-then-not-has_dimension : goal.returns-then-not-has_dimension
-returns-then-not-has_dimension c =
-    let shape = c.in_shape in
-    let test = c.has_dimension in
+pub returns-in_err-along : goal.returns-in_err-along
+returns-in_err-along c =
     let a = c.args in
-    refused_7 _ _ _ _ _ (sym shape.ensures ∙ not-false shape.result (ap not c.if-not-in_shape.false)) (fails_dimension a.plan a.dimension test.result test.ensures (ap not c.if-not-has_dimension.true))
+    let back : c.from_residual.result ≡ Err c.in_err-along.field-0.0 = search rules in
+    rw back (answers-refused _ a.sheet.now _ (turned_back a.plan a.dimension a.page a.caption.now (length a.sheet.now) c.in_err-along.ensures))
 
-pub overflow_sub-dimension : goal.overflow_sub-dimension
-overflow_sub-dimension c = omega (arith, (placed c).low)
+pub returns-then-listed-page : goal.returns-then-listed-page
+returns-then-listed-page c =
+    let a = c.args in
+    let e = c.along-listed.ensures in
+    let past : (c.along-listed.result.slabs.cut - 1) / 50 < a.page = omega (arith, c.if-listed-page.true, c.along-listed.result.fits.cut_low) in
+    rw (
+      passed a.plan a.dimension a.page a.caption.now (length a.sheet.now) c.in_ok-along.field-0 c.in_ok-along.ensures _ _ _ e.0 e.1 e.2,
+      lt-leb _ _ past,
+    )
+    (record { told = refl; held = refl })
 
-pub sheet_along-requires : goal.sheet_along-requires
-sheet_along-requires c =
-    let shape = c.in_shape in
-    (passes_shape _ shape.result shape.ensures (ap not c.if-not-in_shape.false), omega (arith, (placed (goal.at.sheet_along-requires c).Else-not-has_dimension).below))
+pub returns-then-sheet-ne-PAGE : goal.returns-then-sheet-ne-PAGE
+returns-then-sheet-ne-PAGE c =
+    let a = c.args in
+    let e = c.along-listed.ensures in
+    let within : a.page ≤ (c.along-listed.result.slabs.cut - 1) / 50 = omega (arith, c.if-listed-page.false) in
+    rw (
+      passed a.plan a.dimension a.page a.caption.now (length a.sheet.now) c.in_ok-along.field-0 c.in_ok-along.ensures _ _ _ e.0 e.1 e.2,
+      le-leb _ _ within,
+      ne_eqb _ _ c.if-sheet-ne-PAGE.true,
+    )
+    (record { told = refl; held = refl })
 
 pub returns : goal.returns
-returns c = rw (placed (goal.at.returns c).Else-not-has_dimension).back at c.sheet_along.ensures
+returns c =
+    let a = c.args in
+    let e = c.along-listed.ensures in
+    let within : a.page ≤ (c.along-listed.result.slabs.cut - 1) / 50 = omega (arith, c.if-listed-page.false) in
+    rw (
+      passed a.plan a.dimension a.page a.caption.now (length a.sheet.now) c.in_ok-along.field-0 c.in_ok-along.ensures _ _ _ e.0 e.1 e.2,
+      le-leb _ _ within,
+      eq-eqb _ _ c.if-sheet-ne-PAGE.false,
+      c.put_page.ensures,
+    )
+    (record { told = refl; held = refl })

@@ -1,20 +1,16 @@
 -- `solver_link::multipartition_diagonal` meets its contract. Assumes nothing.
 use mathlib.Core.Path.{subst}
-use mathlib.Core.List.{List}
-use Prim.Native.Nat.{ℕ}
 use lib.ListN.{length}
-use Rattle.multipartition.specs.Answers.{Answer}
-use Rattle.link_lists.specs.Lists.{Linked}
-use Rattle.solver_link.specs.Link.{diagonal_link}
-use Rattle.solver_link.proofs.Planning.{plannable_diagonal, planned_few, planned_listed_lem}
+use Rattle.multipartition.specs.Plans.{Job}
+use Rattle.diagonal.specs.Diagonal.{diagonal_answer}
+use Rattle.refusals.specs.Told.{Answers}
+use Rattle.link_lists.proofs.Answers.{linked}
+use Rattle.solver_link.specs.Link.{plan_listed, diagonal_link}
+use Rattle.solver_link.proofs.Fits.{fits-diagonal}
 use Rattle.solver_link.proofs.multipartition_diagonal.Goals as goal
-
-pub put_planned-requires : goal.put_planned-requires
-put_planned-requires c = planned_few c.diagonal_job-planned.result _ (plannable_diagonal _) c.diagonal_job-planned.ensures
 
 pub returns : goal.returns
 unfolding diagonal_link
 returns c =
-    let lent = c.args.plan.now in
-    subst (λ (a : Answer (List ℕ)). Linked a lent c.put_planned.result c.put_planned.new.list)
-    (planned_listed_lem c.diagonal_job-planned.result (length lent) _ (plannable_diagonal _) c.diagonal_job-planned.ensures) c.put_planned.ensures
+    let answers = subst (λ (job : Job). Answers (plan_listed (length c.args.plan.now) (diagonal_answer job)) c.diagonal.result c.args.plan.now c.diagonal.new.answer) c.job.ensures c.diagonal.ensures in
+    linked _ _ _ _ _ answers c.code.ensures (fits-diagonal _ _ _ _ _ _)

@@ -1,17 +1,7 @@
 -- `solver_link::multipartition_hypercube_owner` meets its contract. Assumes nothing.
-use mathlib.Core.Path.{sym}
-use Rattle.solver_link.specs.Link.{hypercube_owner_link}
-use Rattle.solver_link.proofs.Answers.{linked_asked_answered, linked_asked_refused}
+use Rattle.link_lists.proofs.Answers.{linked}
+use Rattle.solver_link.proofs.Fits.{fits-hypercube}
 use Rattle.solver_link.proofs.multipartition_hypercube_owner.Goals as goal
 
-pub returns-in-Processor : goal.returns-in-Processor
-unfolding hypercube_owner_link
-returns-in-Processor c =
-    let told = sym c.in-Processor.ensures in
-    linked_asked_answered _ _ _ _ told _ _ c.put_one.ensures
-
-pub returns-in-Refused : goal.returns-in-Refused
-unfolding hypercube_owner_link
-returns-in-Refused c =
-    let told = sym c.in-Refused.ensures in
-    linked_asked_refused _ _ _ _ _ told _ c.joined.ensures
+pub returns : goal.returns
+returns c = linked _ _ _ _ _ c.hypercube_owner.ensures c.code.ensures (fits-hypercube _ _ _)

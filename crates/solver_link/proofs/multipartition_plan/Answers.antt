@@ -1,20 +1,16 @@
 -- `solver_link::multipartition_plan` meets its contract. Assumes nothing.
 use mathlib.Core.Path.{subst}
-use mathlib.Core.List.{List}
-use Prim.Native.Nat.{ℕ}
 use lib.ListN.{length}
-use Rattle.multipartition.specs.Answers.{Answer}
-use Rattle.link_lists.specs.Lists.{Linked}
-use Rattle.solver_link.specs.Link.{plan_link}
-use Rattle.solver_link.proofs.Planning.{plannable-plan, planned_few, planned_listed_lem}
+use Rattle.multipartition.specs.Plans.{Job}
+use Rattle.multipartition.specs.Jobs.{plan_answer}
+use Rattle.refusals.specs.Told.{Answers}
+use Rattle.link_lists.proofs.Answers.{linked}
+use Rattle.solver_link.specs.Link.{plan_listed, plan_link}
+use Rattle.solver_link.proofs.Fits.{fits-plan}
 use Rattle.solver_link.proofs.multipartition_plan.Goals as goal
-
-pub put_planned-requires : goal.put_planned-requires
-put_planned-requires c = planned_few c.plan_job-planned.result _ (plannable-plan _) c.plan_job-planned.ensures
 
 pub returns : goal.returns
 unfolding plan_link
 returns c =
-    let lent = c.args.plan.now in
-    subst (λ (a : Answer (List ℕ)). Linked a lent c.put_planned.result c.put_planned.new.list)
-    (planned_listed_lem c.plan_job-planned.result (length lent) _ (plannable-plan _) c.plan_job-planned.ensures) c.put_planned.ensures
+    let answers = subst (λ (job : Job). Answers (plan_listed (length c.args.plan.now) (plan_answer job)) c.plan.result c.args.plan.now c.plan.new.answer) c.job.ensures c.plan.ensures in
+    linked _ _ _ _ _ answers c.code.ensures (fits-plan _ _ _ _ _ _)

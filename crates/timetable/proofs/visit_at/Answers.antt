@@ -1,34 +1,41 @@
 -- `visit_at` meets its contract.
-use mathlib.Core.Path.{◌≡◌, sym, ◌∙◌}
-use mathlib.Core.Bool.{true}
-use Prim.Native.Nat.{◌+◌, ◌-◌}
+use mathlib.Core.Path.{sym, ap, ◌∙◌}
 use native.Mathlib.Omega.{arith}
-use Rattle.multipartition.specs.Plans.{in_shape}
-use Rattle.layout.specs.Plans.{layout_of}
-use Rattle.layout.proofs.Shaped.{shaped}
-use Rattle.timetable.proofs.Visits.{refused-6, refused_7_below, refused_7_above}
+use borrow.Author.Rules.{rules}
+use Rattle.multipartition.specs.Answers.{answered}
+use Rattle.timetable.proofs.Visits.{no_axis, an_axis, left-11, left_8-step, left_8_processor, left_visited}
 use Rattle.timetable.proofs.visit_at.Goals as goal
-use Rattle.timetable.proofs.visit_at.Goals.{Else-not-in_shape}
 
--- the plan is in shape, once the first check has passed
-shape : (c : Else-not-in_shape) → in_shape (layout_of c.args.plan) ≡ true
-shape c = sym c.in_shape.ensures ∙ c.if-not-in_shape.false
+pub returns-in_err-axis : goal.returns-in_err-axis
+returns-in_err-axis c =
+    let a = c.args in
+    search (rules, no_axis a.plan a.dimension a.up a.step a.processor _ c.in_err-axis.ensures)
 
-pub returns-then-not-in_shape : goal.returns-then-not-in_shape
-returns-then-not-in_shape c = refused-6 _ _ _ _ _ (sym c.in_shape.ensures ∙ c.if-not-in_shape.true)
+pub returns-then-not-others_fit : goal.returns-then-not-others_fit
+returns-then-not-others_fit c =
+    let a = c.args in
+    let axis = c.in_ok-axis.axis in
+    left-11 axis.shaped.plan axis.k axis.within a.up a.step a.processor (sym c.others_fit.ensures ∙ c.if-not-others_fit.true)
+    ∙ an_axis a.plan a.dimension a.up a.step a.processor axis c.in_ok-axis.ensures
 
-pub returns-then-dimension-lt1 : goal.returns-then-dimension-lt1
-returns-then-dimension-lt1 c = refused_7_below _ _ _ _ _ (shape (goal.at.returns-then-dimension-lt1 c).Else-not-in_shape) c.if-dimension-lt1.true
+pub returns-then-cut-step : goal.returns-then-cut-step
+returns-then-cut-step c =
+    let a = c.args in
+    let axis = c.in_ok-axis.axis in
+    left_8-step axis.shaped.plan axis.k axis.within a.up a.step a.processor (sym c.others_fit.ensures ∙ c.if-not-others_fit.false) (omega (arith, c.cut.ensures, c.if-cut-step.true))
+    ∙ an_axis a.plan a.dimension a.up a.step a.processor axis c.in_ok-axis.ensures
 
-pub returns-then-plan-dimension : goal.returns-then-plan-dimension
-unfolding layout_of
-returns-then-plan-dimension c = refused_7_above _ _ _ _ _ (shape (goal.at.returns-then-plan-dimension c).Else-not-in_shape) c.if-dimension-lt1.false c.if-plan-dimension.true
-
-pub visited_along-requires : goal.visited_along-requires
-visited_along-requires c = (shaped _ (shape (goal.at.visited_along-requires c).Else-not-in_shape), omega arith)
+pub returns-then-axis-processor : goal.returns-then-axis-processor
+returns-then-axis-processor c =
+    let a = c.args in
+    let axis = c.in_ok-axis.axis in
+    left_8_processor axis.shaped.plan axis.k axis.within a.up a.step a.processor (sym c.others_fit.ensures ∙ c.if-not-others_fit.false) (omega (arith, c.cut.ensures, c.if-cut-step.false)) c.if-axis-processor.true
+    ∙ an_axis a.plan a.dimension a.up a.step a.processor axis c.in_ok-axis.ensures
 
 pub returns : goal.returns
 returns c =
     let a = c.args in
-    let back : a.dimension - 1 + 1 ≡ a.dimension = omega arith in
-    rw back at c.visited_along.ensures
+    let axis = c.in_ok-axis.axis in
+    ap answered c.visit.ensures
+    ∙ left_visited axis.shaped.plan axis.k axis.within a.up a.step a.processor (sym c.others_fit.ensures ∙ c.if-not-others_fit.false) (omega (arith, c.cut.ensures, c.if-cut-step.false)) c.if-axis-processor.false
+    ∙ an_axis a.plan a.dimension a.up a.step a.processor axis c.in_ok-axis.ensures

@@ -8,11 +8,11 @@ use Rattle.walks.proofs.next.Goals as goal
 use Rattle.walks.proofs.next.Goals.{After-modulo-c}
 
 pub loop-i-init : goal.loop-i-init
-loop-i-init c = (omega arith, stepping_none _ _ c.requires)
+loop-i-init c = stepping_none _ _ c.requires
 
 pub overflow_add-from : goal.overflow_add-from
 overflow_add-from c = let i = c.loop-i.i in
-    omega (arith, c.requires.coordinate_below i (omega arith), c.requires.added_below i (omega arith), stride_modulus_high _ _ c.requires i (omega arith))
+    record { fits = omega (arith, c.requires.coordinate_below i (omega arith), c.requires.added_below i (omega arith), stride_modulus_high _ _ c.requires i (omega arith)) }
 
 pub modulo-c-requires : goal.modulo-c-requires
 modulo-c-requires c =
@@ -30,7 +30,7 @@ Stepped c =
 stepped : (c : After-modulo-c) → Stepped c
 stepped c =
     let l = c.loop-i in
-    stepping-next _ _ c.requires _ _ _ _ (omega arith) c.modulo-c.ensures l.invariant.1
+    stepping-next _ _ c.requires _ _ _ _ (omega arith) c.modulo-c.ensures l.invariant
 
 number_high : (c : After-modulo-c)
     → let l = c.loop-i in
@@ -44,9 +44,9 @@ pub overflow_add-number : goal.overflow_add-number
 overflow_add-number c = record { fits = omega (arith, number_high c) }
 
 pub loop-i-preserved : goal.loop-i-preserved
-loop-i-preserved c = (omega arith, stepped c)
+loop-i-preserved c = stepped c
 
 pub returns : goal.returns
 returns c = let l = c.loop-i in
     let all : l.i ≡ 5 = omega arith in
-    record { number_is = rw all at l.invariant.1.number_is; coordinate_is = λ j m. l.invariant.1.coordinate_is j (omega arith) }
+    record { number_is = rw all at l.invariant.number_is; coordinate_is = λ j m. l.invariant.coordinate_is j (omega arith) }

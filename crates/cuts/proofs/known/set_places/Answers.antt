@@ -1,12 +1,12 @@
 -- `cuts::known::set_places` meets its contract. The divisors rise, so that no place is written twice.
-use mathlib.Core.Path.{◌≡◌, refl, sym, ◌∙◌, ap}
+use mathlib.Core.Path.{◌≡◌, sym, ◌∙◌, ap}
 use mathlib.Core.Logic.{⊎_elim}
 use mathlib.Core.List.{List}
-use Prim.Native.Nat.{ℕ, ◌+◌, ◌<◌, zero-le}
+use Prim.Native.Nat.{ℕ, ◌+◌, ◌<◌}
 use native.Mathlib.Nat.{not-suc-le-zero, le_of_suc-le-suc, eq-or-lt_of_le}
 use native.Mathlib.Numerals.{add-one}
 use native.Mathlib.Omega.{arith}
-use lib.ListN.{length, get_or, set, length-set}
+use lib.ListN.{length, get_or, set}
 use lib.Seq.{get_or-set_same, get_or-set_other}
 use Rattle.cuts.specs.Questions.{Divisors}
 use Rattle.cuts.proofs.known.set_places.Goals as goal
@@ -25,32 +25,17 @@ one_more divisors places j d h long older i l = ⊎_elim here before (eq-or-lt_o
         get_or-set_other places (get_or divisors j 0) (get_or divisors i 0) j 0 (λ q. omega (arith, d.rising i j k h)) ∙ older i k
 
 pub loop-j-init : goal.loop-j-init
-loop-j-init c = (zero-le, refl, λ i h. absurd (not-suc-le-zero h))
-
-pub overflow_cast-at : goal.overflow_cast-at
-overflow_cast-at c = omega (arith, (c.type_inv.divisors c.loop-j.j).fits)
+loop-j-init c = λ i h. absurd (not-suc-le-zero h)
 
 pub overflow_cast-places : goal.overflow_cast-places
-overflow_cast-places c =
-    let few = c.requires.0.few in
-    omega arith
+overflow_cast-places c = let few = c.requires.0.few in omega (arith, c.loop-j-test.true)
 
-pub bounds-places-at : goal.bounds-places-at
-bounds-places-at c = omega (arith, c.requires.0.small c.loop-j.j (omega arith))
+pub bounds-places-divisor : goal.bounds-places-divisor
+bounds-places-divisor c = omega (arith, c.requires.0.small c.loop-j.j c.loop-j-test.true, c.loop-j.auto.places)
 
 pub loop-j-preserved : goal.loop-j-preserved
 loop-j-preserved c =
-    let loop = c.loop-j in
-    let divisors = c.args.divisors.now in (
-      omega arith,
-      length-set loop.places (get_or divisors loop.j 0) loop.j ∙ loop.invariant.1,
-      one_more divisors loop.places loop.j c.requires.0 (omega arith) (omega arith) loop.invariant.2,
-    )
-
-pub shape_of-places : goal.shape_of-places
-shape_of-places c = c.loop-j.invariant.1
+    one_more c.args.divisors.now c.loop-j.places c.loop-j.j c.requires.0 c.loop-j-test.true (omega (arith, c.loop-j.auto.places)) c.loop-j.invariant
 
 pub returns : goal.returns
-returns c =
-    let loop = c.loop-j in
-    λ i h. loop.invariant.2 i (omega arith)
+returns c = λ i h. c.loop-j.invariant i (omega (arith, c.loop-j-test.false))

@@ -1,5 +1,5 @@
 -- `cuts::search::in_front` meets its contract.
-use mathlib.Core.Path.{◌≡◌, ap}
+use mathlib.Core.Path.{◌≡◌, ap, ap₂, ◌∙◌}
 use mathlib.Core.Logic.{◌⊎◌, ⊎_elim}
 use Prim.Native.Nat.{ℕ, ◌+◌, ◌*◌, ◌/◌, ◌^◌, ◌≤◌, ◌<◌}
 use native.Mathlib.Nat.{mul-le-mul}
@@ -45,12 +45,13 @@ pub overflow_add-result-2 : goal.overflow_add-result-2
 overflow_add-result-2 c =
     let some = found c.args.r c.requires.2 c.if-r-eq-NOTHING.false in
     let sum = small _ _ _ _ c.cut_cost.ensures c.requires.1 (omega (arith, c.ranges.w.fits)) some.0 in
-    omega (arith, sum, c.requires.1)
+    omega (arith, sum, c.from.ensures, c.requires.1)
 
 pub overflow_mul-result-2 : goal.overflow_mul-result-2
 overflow_mul-result-2 c =
     let some = found c.args.r c.requires.2 c.if-r-eq-NOTHING.false in
-    let most : c.args.b * c.args.r.tiles ≤ 4096 * 2 ^ 48 = mul-le-mul c.requires.1 some.1 in
+    let low : c.from-2.result ≤ 4096 = omega (arith, c.from-2.ensures, c.requires.1) in
+    let most : c.from-2.result * c.args.r.tiles ≤ 4096 * 2 ^ 48 = mul-le-mul low some.1 in
     omega (arith, most)
 
 pub returns : goal.returns
@@ -58,4 +59,5 @@ unfolding in_front
 returns c =
     let args = c.args in
     rw (ne_eqb args.r.packed (2 ^ 63) c.if-r-eq-NOTHING.false)
-    (ap (λ (x : ℕ). front ((args.r.packed / 8192 + x) * 8192 + args.b) (args.b * args.r.tiles)) c.cut_cost.ensures)
+    (ap₂ (λ (x y : ℕ). front ((args.r.packed / 8192 + x) * 8192 + y) (c.from-2.result * args.r.tiles)) c.cut_cost.ensures c.from.ensures
+    ∙ ap (λ (y : ℕ). front ((args.r.packed / 8192 + cut_cost args.b args.w) * 8192 + args.b) (y * args.r.tiles)) c.from-2.ensures)

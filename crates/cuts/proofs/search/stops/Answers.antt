@@ -43,20 +43,21 @@ wide x y h k = let high = mul-le-mul h k in omega arith
 pub overflow_mul-result : goal.overflow_mul-result
 overflow_mul-result c =
     let fits = c.ranges in
-    let high = wide _ _ fits.unit.fits fits.all.fits in
+    let high = wide c.from.result c.from-2.result (omega (arith, c.from.ensures, fits.unit.fits)) (omega (arith, c.from-2.ensures, fits.all.fits)) in
     omega arith
 
 pub overflow_mul-result-2 : goal.overflow_mul-result-2
 overflow_mul-result-2 c =
     let fits = c.ranges in
-    let high = wide _ _ fits.b.fits fits.each.fits in
+    let high = wide c.from-3.result c.from-4.result (omega (arith, c.from-3.ensures, fits.b.fits)) (omega (arith, c.from-4.ensures, fits.each.fits)) in
     omega arith
 
 pub returns : goal.returns
 returns c =
     let args = c.args in
     let within = c.is_within in
-    by_tests args.b args.n args.unit args.all args.each args.c args.best (leb args.best.tiles (args.unit * args.all))
+    rw (c.from.ensures, c.from-2.ensures, c.from-3.ensures, c.from-4.ensures)
+    (by_tests args.b args.n args.unit args.all args.each args.c args.best (leb args.best.tiles (args.unit * args.all))
     (leb args.best.tiles (args.b * args.each)) refl refl
     (subst (λ (t : Bool). IsWithin args.b args.n t) c.if-not-is_within.false within.ensures)
-    c.if-all-b.false c.if-c-best.false
+    c.if-all-b.false c.if-c-best.false)

@@ -1,44 +1,37 @@
-use mathlib.Core.Path.{◌≡◌, refl}
-use Prim.Native.Nat.{◌<◌}
+use mathlib.Core.Path.{sym, ◌∙◌, ap}
+use mathlib.Core.List.{List, [], ◌∷◌, ◌++◌}
+use Prim.Native.Nat.{ℕ}
 use native.Mathlib.Omega.{arith}
-use Rattle.numbers.specs.LeastFactor.{least_factor}
-use Rattle.numbers.proofs.LeastFactor.{factoring-step, factoring_end, rest_le, done-le, rest_falls, done_pos, factor_prime}
-use Rattle.numbers.proofs.Merge.{listed-one}
+use Rattle.numbers.specs.Divisors.{divisors_of}
+use Rattle.numbers.proofs.LeastFactor.{factoring-step, factoring_end, done-le, rest_falls, done_pos, factor_prime}
+use Rattle.numbers.proofs.Merge.{divisors_of-one}
 use Rattle.numbers.proofs.factors.by_factors.Goals as goal
 
 pub loop-rest-init : goal.loop-rest-init
-loop-rest-init c = (record { whole = omega arith; positive = omega arith }, listed-one, c.table-entries.ensures)
+loop-rest-init c = (
+  record { whole = omega arith; positive = omega arith },
+  c.push.ensures.items ∙ ap (λ (l : List ℕ). l ++ (1 ∷ [])) c.new-known.ensures ∙ sym divisors_of-one,
+)
 
-pub overflow_cast-rest : goal.overflow_cast-rest
-overflow_cast-rest c = omega (arith, rest_le c.loop-rest.invariant.0)
-
-pub least-f-requires : goal.least-f-requires
-least-f-requires c =
-    record { least_factors = c.loop-rest.invariant.2; lt_n = (omega arith, omega (arith, rest_le c.loop-rest.invariant.0)) }
-
-pub times_prime-known-requires : goal.times_prime-known-requires
-times_prime-known-requires c =
+pub times_prime-known-requires-clause-m_nonzero : goal.times_prime-known-requires-clause-m_nonzero
+times_prime-known-requires-clause-m_nonzero c =
     let S = c.loop-rest.invariant.0 in
-    let f-is : c.least-f.result ≡ least_factor c.loop-rest.rest = c.least-f.ensures in
-    let more : 1 < c.loop-rest.rest = omega arith in
-    record {
-      m_nonzero = (done_pos S, omega (arith, done-le S f-is more));
-      prime = factor_prime S f-is more;
-      listed = record { counted = refl; places = c.loop-rest.invariant.1.places };
-    }
+    (done_pos S, omega (arith, done-le S (c.from-f.ensures ∙ c.least.ensures) (omega (arith, c.loop-rest-test.true))))
 
-pub overflow_mul-done : goal.overflow_mul-done
-overflow_mul-done c = omega (arith, done-le c.loop-rest.invariant.0 c.least-f.ensures (omega arith))
+pub times_prime-known-requires-clause-prime : goal.times_prime-known-requires-clause-prime
+times_prime-known-requires-clause-prime c = factor_prime c.loop-rest.invariant.0 (c.from-f.ensures ∙ c.least.ensures) (omega (arith, c.loop-rest-test.true))
 
 pub nonzero_div-rest : goal.nonzero_div-rest
-nonzero_div-rest c = omega (arith, (factor_prime c.loop-rest.invariant.0 c.least-f.ensures (omega arith)).above_one)
+nonzero_div-rest c = omega (arith, (factor_prime c.loop-rest.invariant.0 (c.from-f.ensures ∙ c.least.ensures) (omega (arith, c.loop-rest-test.true))).above_one)
 
 pub loop-rest-smaller : goal.loop-rest-smaller
-loop-rest-smaller c = rest_falls c.loop-rest.invariant.0 c.least-f.ensures (omega arith)
+loop-rest-smaller c = rest_falls c.loop-rest.invariant.0 (c.from-f.ensures ∙ c.least.ensures) (omega (arith, c.loop-rest-test.true))
 
 pub loop-rest-preserved : goal.loop-rest-preserved
-loop-rest-preserved c = (factoring-step c.loop-rest.invariant.0 c.least-f.ensures (omega arith), c.times_prime-known.ensures, c.loop-rest.invariant.2)
+loop-rest-preserved c = (
+  factoring-step c.loop-rest.invariant.0 (c.from-f.ensures ∙ c.least.ensures) (omega (arith, c.loop-rest-test.true)),
+  c.times_prime-known.ensures,
+)
 
 pub returns : goal.returns
-returns c =
-    rw (factoring_end c.loop-rest.invariant.0 (omega arith)) at c.loop-rest.invariant.1
+returns c = c.loop-rest.invariant.1 ∙ ap divisors_of (factoring_end c.loop-rest.invariant.0 (omega arith))

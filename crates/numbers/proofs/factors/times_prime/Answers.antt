@@ -1,73 +1,57 @@
-use Prim.Native.Nat.{◌≤◌}
+use mathlib.Core.Path.{◌≡◌, ◌∙◌, ap}
+use mathlib.Core.List.{List}
+use Prim.Native.Nat.{ℕ, ◌*◌, min}
+use native.Mathlib.Nat.{one-mul}
 use native.Mathlib.Omega.{arith}
-use lib.ListN.{length}
-use Rattle.numbers.specs.Divisors.{divisors_of}
-use Rattle.numbers.proofs.Sums.{same-le}
-use Rattle.numbers.proofs.Merge.{Turn, merging_start, merging_end, merging-step, merging-next, first-lt, second_lt, count-lt, product_le}
+use lib.ListN.{get_or}
+use Rattle.std.specs.Prelude.{Option, unwrap_or, slice_get}
+use Rattle.std.proofs.lemmas.Option.{unwrap_or-slice_get}
+use Rattle.numbers.proofs.Merge.{Turn, merging_start, merging_end, merging-step, merging-next, times_left, room, product_le}
 use Rattle.numbers.proofs.factors.times_prime.Goals as goal
-use Rattle.numbers.proofs.factors.times_prime.Goals.{In-loop-last}
+use Rattle.numbers.proofs.factors.times_prime.Goals.{In-loop-last, After-min-last}
 
-turn : (c : In-loop-last)
-    → Turn c.args.f c.args.m c.args.older.now c.loop-last.last
-    c.loop-last.i c.loop-last.j c.loop-last.count c.loop-last.of
+turn : (c : In-loop-last) → Turn c.args.f c.args.m c.loop-last.last c.loop-last.kept.now c.loop-last.times.now c.loop-last.merged.items
 turn c =
     record {
       prime = c.requires.prime;
       positive = c.requires.m_nonzero.0;
       small = c.requires.m_nonzero.1;
-      total = length (divisors_of c.args.m);
-      known = c.requires.listed;
       state = c.loop-last.invariant;
       less = omega arith;
     }
 
 pub loop-last-init : goal.loop-last-init
-loop-last-init c = merging_start _ _
+loop-last-init c = rw (c.requires.listed, c.new-merged.ensures) (merging_start _ _)
 
-pub offset_bounds-older-i : goal.offset_bounds-older-i
-offset_bounds-older-i c = omega (arith, first-lt (turn (goal.at.offset_bounds-older-i c).In-loop-last))
-
-pub bounds-older-i : goal.bounds-older-i
-bounds-older-i c = first-lt (turn (goal.at.bounds-older-i c).In-loop-last)
-
-pub offset_bounds-older-j : goal.offset_bounds-older-j
-offset_bounds-older-j c = omega (arith, second_lt (turn (goal.at.offset_bounds-older-j c).In-loop-last))
-
-pub bounds-older-j : goal.bounds-older-j
-bounds-older-j c = second_lt (turn (goal.at.bounds-older-j c).In-loop-last)
+pub bounds-times-0 : goal.bounds-times-0
+bounds-times-0 c = times_left (turn (goal.at.bounds-times-0 c).In-loop-last)
 
 pub overflow_mul-b : goal.overflow_mul-b
 overflow_mul-b c = omega (arith, product_le (turn (goal.at.overflow_mul-b c).In-loop-last))
 
-pub offset_bounds-of-count : goal.offset_bounds-of-count
-offset_bounds-of-count c = omega (arith, count-lt (turn (goal.at.offset_bounds-of-count c).In-loop-last))
+pub push-requires : goal.push-requires
+push-requires c = (omega arith, room (turn (goal.at.push-requires c).In-loop-last))
 
-pub bounds-of-count : goal.bounds-of-count
-bounds-of-count c = count-lt (turn (goal.at.bounds-of-count c).In-loop-last)
+pub returns : goal.returns
+returns c = merging_end _ _ _ _ _ _ c.loop-last.invariant (omega arith)
 
-pub overflow_add-count : goal.overflow_add-count
-overflow_add-count c = omega (arith, count-lt (turn (goal.at.overflow_add-count c).In-loop-last))
+pub past-times-requires : goal.past-times-requires
+past-times-requires c = omega (arith, product_le (turn (goal.at.past-times-requires c).In-loop-last))
 
-pub overflow_add-i : goal.overflow_add-i
-overflow_add-i c =
-    let one : c.passed-i.result ≤ 1 = rw c.passed-i.ensures (same-le _ _) in
-    omega (arith, first-lt (turn (goal.at.overflow_add-i c).In-loop-last))
+-- the smaller of the next divisor of m, if there is one, and the next one times f
+least : (xs : List ℕ) (b w r : ℕ) (o : Option ℕ) → w ≡ min r b → r ≡ unwrap_or o b → o ≡ slice_get xs 0 → w ≡ min (get_or xs 0 b) b
+least xs b w r o e f g = e ∙ ap (λ (x : ℕ). min x b) (f ∙ ap (λ (z : Option ℕ). unwrap_or z b) g ∙ unwrap_or-slice_get xs 0 b)
 
-pub overflow_add-j : goal.overflow_add-j
-overflow_add-j c =
-    let one : c.passed-j.result ≤ 1 = rw c.passed-j.ensures (same-le _ _) in
-    omega (arith, second_lt (turn (goal.at.overflow_add-j c).In-loop-last))
+written : (c : After-min-last) → c.min-last.result ≡ min (get_or c.loop-last.kept.now 0 (c.args.f * get_or c.loop-last.times.now 0 0)) (c.args.f * get_or c.loop-last.times.now 0 0)
+written c = least _ _ _ _ _ c.min-last.ensures c.unwrap_or.ensures (c.copied.ensures ∙ c.first.ensures.value)
 
 pub loop-last-smaller : goal.loop-last-smaller
 loop-last-smaller c =
-    let both = c.smaller-last.ensures in
-    omega (arith, (turn (goal.at.loop-last-smaller c).In-loop-last).less, (merging-next (turn (goal.at.loop-last-smaller c).In-loop-last) c.smaller-last.result both.alone both.both).above)
+    let T = turn (goal.at.loop-last-smaller c).In-loop-last in
+    omega (arith, T.less, (merging-next T c.min-last.result (written (goal.at.loop-last-smaller c).After-min-last)).above)
 
 pub loop-last-preserved : goal.loop-last-preserved
 loop-last-preserved c =
-    let both = c.smaller-last.ensures in
-    rw (c.passed-i.ensures, c.passed-j.ensures)
-    (merging-step (turn (goal.at.loop-last-preserved c).In-loop-last) c.smaller-last.result both.alone both.both)
-
-pub returns : goal.returns
-returns c = merging_end _ _ _ _ _ _ _ c.loop-last.invariant (omega arith)
+    let T = turn (goal.at.loop-last-preserved c).In-loop-last in
+    rw (c.past-kept.ensures, c.past-times.ensures, c.push.ensures.items, one-mul)
+    (merging-step T c.min-last.result (written (goal.at.loop-last-preserved c).After-min-last))

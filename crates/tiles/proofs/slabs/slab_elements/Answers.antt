@@ -1,35 +1,24 @@
 -- `slab_elements` meets its contract.
-use mathlib.Core.Path.{ap}
-use mathlib.Core.Bool.{not}
-use Rattle.multipartition.specs.Questions.{slab_answer}
-use Rattle.layout.proofs.Shaped.{in_shape_of_shaped}
-use Rattle.tiles.proofs.Numbering.{fails_shape, passes_shape, fails_dimension, passes_dimension}
+use Rattle.std.proofs.Common.{rules, arith}
+use borrow.Author.Tests.{lt-ltb, le-ltb}
+use Rattle.tiles.proofs.Asked.{slab-turned_back, slab_passed}
 use Rattle.tiles.proofs.slabs.slab_elements.Goals as goal
 
-pub returns-then-not-in_shape : goal.returns-then-not-in_shape
-unfolding slab_answer
-returns-then-not-in_shape c =
-    rw (fails_shape c.args.plan c.in_shape.result c.in_shape.ensures (ap not c.if-not-in_shape.true))
+pub returns-in_err-slabs : goal.returns-in_err-slabs
+returns-in_err-slabs c = search (rules, slab-turned_back c.args.plan c.args.dimension c.args.slab c.in_err-slabs.ensures)
 
-pub returns-then-not-has_dimension : goal.returns-then-not-has_dimension
-unfolding slab_answer
-returns-then-not-has_dimension c =
+pub returns-then-slabs-slab : goal.returns-then-slabs-slab
+returns-then-slabs-slab c =
     rw (
-      in_shape_of_shaped c.args.plan (passes_shape c.args.plan c.in_shape.result c.in_shape.ensures (ap not c.if-not-in_shape.false)),
-      fails_dimension c.args.plan c.args.dimension c.has_dimension.result c.has_dimension.ensures (ap not c.if-not-has_dimension.true),
+      slab_passed c.args.plan c.args.dimension c.args.slab c.in_ok-slabs.slabs.extent c.in_ok-slabs.slabs.cut c.in_ok-slabs.ensures,
+      le-ltb _ _ c.if-slabs-slab.true,
     )
-
-pub overflow_sub-dimension : goal.overflow_sub-dimension
-overflow_sub-dimension c =
-    (passes_dimension c.args.plan c.args.dimension c.has_dimension.result c.has_dimension.ensures (ap not c.if-not-has_dimension.false)).low
-
-pub range_of-requires : goal.range_of-requires
-range_of-requires c = (
-  passes_shape c.args.plan c.in_shape.result c.in_shape.ensures (ap not c.if-not-in_shape.false),
-  (passes_dimension c.args.plan c.args.dimension c.has_dimension.result c.has_dimension.ensures (ap not c.if-not-has_dimension.false)).below,
-)
 
 pub returns : goal.returns
 returns c =
-    let here = passes_dimension c.args.plan c.args.dimension c.has_dimension.result c.has_dimension.ensures (ap not c.if-not-has_dimension.false) in
-    rw here.back at c.range_of.ensures
+    rw (
+      slab_passed c.args.plan c.args.dimension c.args.slab c.in_ok-slabs.slabs.extent c.in_ok-slabs.slabs.cut c.in_ok-slabs.ensures,
+      lt-ltb c.args.slab c.in_ok-slabs.slabs.cut (omega (arith, c.if-slabs-slab.false)),
+      c.elements.ensures.start,
+      c.elements.ensures.end,
+    )

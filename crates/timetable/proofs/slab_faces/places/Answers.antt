@@ -1,36 +1,34 @@
-use mathlib.Core.Path.{◌≡◌, refl, sym, ◌∙◌}
-use Prim.Native.Nat.{◌<◌}
+use mathlib.Core.Path.{refl, sym, ap, ◌∙◌}
+use Prim.Native.Nat.{ℕ, ◌/◌, ◌%◌, ◌<◌}
 use native.Mathlib.Nat.{div-one}
 use native.Mathlib.Omega.{arith}
 use lib.ListN.{length, get_or, length-set}
 use Rattle.layout.specs.Plans.{layout_of}
-use Rattle.layout.proofs.Places.{cuts_length, cut_at}
+use Rattle.layout.proofs.Places.{cuts_length}
 use Rattle.walks.proofs.Filling.{set_at}
 use Rattle.timetable.specs.Rows.{places_of}
 use Rattle.timetable.proofs.Rows.{place_at, divided_more}
 use Rattle.timetable.proofs.slab_faces.places.Goals as goal
 
 pub loop-i-init : goal.loop-i-init
-loop-i-init c = (omega arith, sym (div-one c.args.r), (λ j l. absurd (omega arith)), refl)
-
-pub nonzero_rem-at : goal.nonzero_rem-at
-nonzero_rem-at c = c.requires.cut_low c.loop-i.i (omega arith)
-
-pub nonzero_div-rest : goal.nonzero_div-rest
-nonzero_div-rest c = c.requires.cut_low c.loop-i.i (omega arith)
+loop-i-init c = (sym (div-one c.args.r), (λ j l. absurd (omega arith)), refl)
 
 pub loop-i-preserved : goal.loop-i-preserved
+unfolding layout_of
 loop-i-preserved c =
     let l = c.loop-i in
-    let cuts = (layout_of c.args.grid).cuts in
-    let b : get_or cuts l.i 0 ≡ get_or c.args.grid.cuts l.i 0 = cut_at c.args.grid l.i (omega arith) in
-    let within : l.i < length cuts = omega (arith, cuts_length c.args.grid c.requires) in (
-      omega arith,
-      rw (l.invariant.1, ← b) (divided_more cuts c.args.r l.i within),
-      (λ j m. set_at (λ j. get_or (places_of cuts c.args.r) j 0) l.at l.i _ (omega (arith, l.invariant.3, c.requires.d_high)) (sym (place_at cuts c.args.r l.i within ∙ rw (l.invariant.1, b))) j
-          (λ differ. l.invariant.2 j (omega arith))),
-      length-set l.at l.i _ ∙ l.invariant.3,
+    let grid = c.args.grid.now in
+    let cuts = (layout_of grid.plan).cuts in
+    let within : l.i < length cuts = c.loop-i-test.true in (
+      ap (λ (n : ℕ). n / get_or cuts l.i 0) l.invariant.0 ∙ divided_more cuts c.args.r l.i within,
+      (λ j m. set_at (λ j. get_or (places_of cuts c.args.r) j 0) l.at l.i _ (omega (arith, l.invariant.2, within, cuts_length grid.plan grid.shaped, grid.shaped.d_high))
+          (ap (λ (n : ℕ). n % get_or cuts l.i 0) l.invariant.0 ∙ sym (place_at cuts c.args.r l.i within)) j
+          (λ differ. l.invariant.1 j (omega arith))),
+      length-set l.at l.i _ ∙ l.invariant.2,
     )
 
 pub returns : goal.returns
-returns c = let l = c.loop-i in λ i m. l.invariant.2 i (omega arith)
+unfolding layout_of
+returns c =
+    let grid = c.args.grid.now in
+    λ i m. c.loop-i.invariant.1 i (omega (arith, m, c.loop-i-test.false, cuts_length grid.plan grid.shaped))

@@ -1,60 +1,64 @@
-use mathlib.Core.Path.{◌≡◌, refl}
-use Prim.Native.Nat.{ℕ, zero, suc, ◌+◌, ◌-◌, ◌*◌, ◌<◌, ◌≤◌}
-use native.Mathlib.Nat.{le_of_eq}
-use native.Mathlib.Omega.{arith}
-use lib.ListN.{get_or, drop_of_length-le}
-use lib.Seq.{drop-cons}
+use Rattle.std.proofs.Common.{rules, arith, ◌≡◌, sym, ap, ◌∙◌, ⊎_elim, ◌+◌, ◌*◌, ◌<◌}
+use lib.ListN.{length, take}
+use lib.Seq.{length-take-le}
+use Rattle.std.specs.Slice.Iter.{iter_rest}
+use Rattle.std.specs.Iterator.Adapters.{rev_source, zip_first, zip_second}
 use Rattle.multipartition.specs.MixedRadix.{number_up}
-use Rattle.layout.specs.declared.Plan.{Plan}
 use Rattle.layout.specs.Plans.{layout_of}
-use Rattle.layout.specs.Positions.{InGrid}
-use Rattle.layout.specs.Shaped.{Shaped}
-use Rattle.layout.proofs.Places.{cuts_length, cut_at}
-use Rattle.tiles.specs.declared.positions.Position.{Position}
 use Rattle.tiles.specs.Positions.{coordinates}
-use Rattle.tiles.proofs.Coordinates.{grid-at, number_small}
-use Rattle.tiles.proofs.positions.Position.number_from_zero.Invariants.{from}
+use Rattle.tiles.proofs.Coordinates.{grid_front, number_small}
+use Rattle.tiles.proofs.Numbers.{number-init, number-next, number_all}
 use Rattle.tiles.proofs.positions.Position.number_from_zero.Goals as goal
+use Rattle.tiles.proofs.positions.Position.number_from_zero.Goals.{In-Some}
 
-module _ (plan : Plan) (position : Position) (s : Shaped plan) where
-  -- no coordinate yet
-  none : 0 ≡ from plan position plan.d
-  unfolding number_up
-  none = rw (drop_of_length-le (layout_of plan).cuts (le_of_eq (cuts_length plan s)))
+-- the next number is that of the coordinates from a place on
+small : (c : In-Some) → length c.args.self.at ≡ 5 → c.loop-i.number * c.in-Some.b.now + c.in-Some.i.now < 16777216
+unfolding layout_of
+small c five =
+    let s = c.in-Some.ensures.steps in
+    let plan = c.args.grid.plan.now in
+    let front = iter_rest (rev_source (zip_second c.next.new.self)) in
+    let next = (number-next _ _ _ _ _ _ _ (rw (s.0, s.1) at c.loop-i.invariant)).1 in
+    let at : take plan.d c.args.self.at ≡ coordinates c.args.self = grid_front plan c.args.grid.shaped c.args.self c.requires five in
+    omega (arith, rw at at next, number_small plan c.args.grid.shaped (coordinates c.args.self) c.requires (length front))
 
-  -- one coordinate more
-  next : InGrid plan (coordinates position) → (k : ℕ) → zero < k → k ≤ plan.d → (number : ℕ) → number ≡ from plan position k
-      → (number * get_or plan.cuts (k - 1) 0 + get_or position.at (k - 1) 0 ≡ from plan position (k - 1))
-      × (number * get_or plan.cuts (k - 1) 0 + get_or position.at (k - 1) 0 < 16777216)
-  unfolding number_up
-  next g zero low l number e = absurd (omega arith)
-  next g (suc k) low l number e =
-      let back : suc k - 1 ≡ k = omega arith in
-      let below : k < plan.d = omega arith in
-      let more : number * get_or plan.cuts k 0 + get_or position.at k 0 ≡ from plan position k
-      = rw (e, drop-cons (layout_of plan).cuts k 0 (omega (arith, cuts_length plan s)), drop-cons (coordinates position) k 0 (omega (arith, g.coordinates)), cut_at plan k below, grid-at plan position g k below) (omega arith) in
-      rw back (more, omega (arith, more, number_small plan s (coordinates position) g k))
-
-pub loop-k-init : goal.loop-k-init
-loop-k-init c = (omega arith, none c.args.plan c.args.self c.requires.0)
+pub loop-i-init : goal.loop-i-init
+loop-i-init c =
+    let plan = c.args.grid.plan.now in
+    let shaped = c.args.grid.shaped in
+    let at : length (take plan.d c.args.self.at) ≡ plan.d = length-take-le plan.d c.args.self.at (search (rules, shaped.d_high)) in
+    let cuts : length (take plan.d plan.cuts) ≡ plan.d = length-take-le plan.d plan.cuts shaped.cuts_long in
+    rw (
+      c.into_iter-i-iterator.ensures.into_iter_gives,
+      c.zip-i-items.ensures.first,
+      c.zip-i-items.ensures.second,
+      c.rev.ensures.source,
+      c.rev-2.ensures.source,
+      c.iter.ensures.rest,
+      c.iter-2.ensures.rest,
+    )
+    (number-init (take plan.d plan.cuts) (take plan.d c.args.self.at) (at ∙ sym cuts))
 
 pub overflow_mul-number : goal.overflow_mul-number
-overflow_mul-number c =
-    let l = c.loop-k in
-    omega (arith, next c.args.plan c.args.self c.requires.0 c.requires.1 l.k (omega arith) l.invariant.0 l.number l.invariant.1)
+overflow_mul-number c = omega (arith, small (goal.at.overflow_mul-number c).In-Some (search rules))
 
 pub overflow_add-number : goal.overflow_add-number
-overflow_add-number c =
-    let l = c.loop-k in
-    omega (arith, next c.args.plan c.args.self c.requires.0 c.requires.1 l.k (omega arith) l.invariant.0 l.number l.invariant.1)
+overflow_add-number c = omega (arith, small (goal.at.overflow_add-number c).In-Some (search rules))
 
-pub loop-k-preserved : goal.loop-k-preserved
-loop-k-preserved c =
-    let l = c.loop-k in
-    (omega arith, (next c.args.plan c.args.self c.requires.0 c.requires.1 l.k (omega arith) l.invariant.0 l.number l.invariant.1).0)
+pub loop-i-preserved : goal.loop-i-preserved
+loop-i-preserved c =
+    let s = c.in-Some.ensures.steps in
+    (number-next _ _ _ _ _ _ _ (rw (s.0, s.1) at c.loop-i.invariant)).0
 
 pub returns : goal.returns
+unfolding layout_of
 returns c =
-    let l = c.loop-k in
-    let all : l.k ≡ 0 = omega arith in
-    rw (l.invariant.1, all) (refl, number_small c.args.plan c.requires.0 (coordinates c.args.self) c.requires.1 0)
+    let s = c.in-None.ensures.steps in
+    let l = c.loop-i in
+    let a = iter_rest (rev_source (zip_first l.i-iterator)) in
+    let none : length a ≡ 0
+    = ⊎_elim (λ first. first.1.0) (λ second. l.invariant.as_many ∙ second.1.0) s in
+    let plan = c.args.grid.plan.now in
+    let all : l.number ≡ number_up (layout_of plan).cuts (coordinates c.args.self)
+    = number_all _ _ _ _ _ l.invariant none ∙ ap (number_up (layout_of plan).cuts) (grid_front plan c.args.grid.shaped c.args.self c.requires (search rules)) in
+    (all, omega (arith, all, number_small plan c.args.grid.shaped (coordinates c.args.self) c.requires 0))

@@ -17,7 +17,7 @@ returns-then-i-self c =
     let a = c.args in
     sym (get_or-set_other (coordinates a.self) a.k a.i a.x 0 c.if-i-k.false ∙ coordinate-at a.self a.i c.if-i-self.true)
 
-pub returns : goal.returns
-returns c =
+pub returns-else-i-self : goal.returns-else-i-self
+returns-else-i-self c =
     let a = c.args in
     sym (get_or-eq_default (set (coordinates a.self) a.k a.x) 0 (omega (arith, length-set (coordinates a.self) a.k a.x, length-coordinates a.self)))

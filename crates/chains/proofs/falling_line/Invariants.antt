@@ -1,9 +1,0 @@
-use Rattle.chains.proofs.Running.{Running}
-use Rattle.chains.proofs.falling_line.Given as goal
-
-abbrev pub invariant-loop-tile : goal.invariant-loop-tile
-invariant-loop-tile l =
-    Running l.counts l.downs l.q l.stop l.top l.tile l.here l.initial.heads l.initial.nexts l.heads l.nexts
-
-abbrev pub decreases-loop-tile : goal.decreases-loop-tile
-decreases-loop-tile l = l.tile
