@@ -9,7 +9,7 @@ use Rattle.cuts.proofs.Chosen as chosen
 use Rattle.cuts.proofs.tables.Tables.chosen_cuts.Goals as goal
 
 pub search-r-requires : goal.search-r-requires
-search-r-requires c = let t = c.args.self.now in (chosen.asks_first t c.args.known.now c.requires, t.asked.d_low)
+search-r-requires c = let t = c.args.self.now in (chosen.asks_first t c.args.known.now _ _ (omega arith) c.requires, t.asked.d_low)
 
 pub shape_of-known-then-r : goal.shape_of-known-then-r
 shape_of-known-then-r c = c.search-r.auto.known
@@ -26,7 +26,7 @@ loop-left-init c =
     let args = c.args in
     let found = c.search-r in
     let known = found.new.known in
-    let ask = chosen.searchable args.self.now known _ _ _ (chosen.asks_first args.self.now known found.ensures.memory) in
+    let ask = chosen.searchable args.self.now known _ _ _ (chosen.asks_first args.self.now known 1 args.self.now.p (omega arith) found.ensures.memory) in
     chosen.walk_start args.self.now.p args.self.now.most.now args.self.now.weights.now args.self.now.divisors.now args.self.now.places.now known (length args.self.now.most.now) found.result c.args.self.now.asked refl c.if-r.false ask found.ensures.answer
 
 pub overflow_sub-cuts : goal.overflow_sub-cuts
