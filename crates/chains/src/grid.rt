@@ -12,12 +12,12 @@ pub(crate) struct Grid<'a> {
     ghost tables: { Tables p counts.now downs.now },
 }
 
-// A walk over a grid as far as stage `stop`: how its lines are visited, and the table for that.
+// A walk over a grid: how its lines are visited, and the table for that. Lines take it by value, and the stage up to which it goes beside it: lent,
+// both would be read again in every line, and the 0 of the chain call compared (docs/DECISIONS.md 40).
 #[derive(Clone, Copy)]
 pub(crate) struct Walk<'a> {
     pub(crate) grid: Grid<'a>,
     pub(crate) way: Way,
     pub(crate) leaps: &'a [u16; 4096],
-    pub(crate) stop: u32,
     ghost leaping: { Leaps way grid.p grid.downs.now leaps.now },
 }

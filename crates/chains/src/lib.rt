@@ -136,12 +136,13 @@ impl<'a> Grid<'a> {
 
 impl<'a> Walk<'a> {
     // Visits a line along place 0. Two owners go along, each taking two steps at once, so that a look-up need not wait for the one before.
-    fn paired_line(&self, q: usize, top: u32, heads: &mut [u32], nexts: &mut [u32])
-        requires { (self.now.way ≡ Way.Paired) × (length heads.old ≡ self.now.grid.p) × (q < self.now.grid.p) × BlockTop self.now.grid.counts.now 1 (length nexts.old) top }
-        ensures { Walks self.now.grid.counts.now self.now.grid.downs.now 1 q self.now.stop top heads.old nexts.old heads.new nexts.new }
+    #[inline(always)]
+    fn paired_line(self, q: usize, top: u32, stop: u32, heads: &mut [u32], nexts: &mut [u32])
+        requires { (self.way ≡ Way.Paired) × (length heads.old ≡ self.grid.p) × (q < self.grid.p) × BlockTop self.grid.counts.now 1 (length nexts.old) top }
+        ensures { Walks self.entry.grid.counts.now self.entry.grid.downs.now 1 q stop top heads.old nexts.old heads.new nexts.new }
     {
         let twice = self.leaps;
-        let last = self.stop.max(top - self.grid.counts[0]);
+        let last = stop.max(top - self.grid.counts[0]);
         let mut here = q;
         let mut next = self.grid.lower(0, q);
         for at in (last..top).rev() {
@@ -154,11 +155,19 @@ impl<'a> Walk<'a> {
 
     // Visits a line along place 0 by runs.
     #[inline(always)]
-    fn run_line(&self, rising: bool, q: usize, top: u32, heads: &mut [u32], nexts: &mut [u32])
-        requires { (Runs rising self.now.grid.p self.now.grid.downs.now self.now.leaps.now) × (length heads.old ≡ self.now.grid.p) × (q < self.now.grid.p) × BlockTop self.now.grid.counts.now 1 (length nexts.old) top }
-        ensures { Walks self.now.grid.counts.now self.now.grid.downs.now 1 q self.now.stop top heads.old nexts.old heads.new nexts.new }
+    fn run_line(
+        self,
+        rising: bool,
+        q: usize,
+        top: u32,
+        stop: u32,
+        heads: &mut [u32],
+        nexts: &mut [u32],
+    )
+        requires { (Runs rising self.grid.p self.grid.downs.now self.leaps.now) × (length heads.old ≡ self.grid.p) × (q < self.grid.p) × BlockTop self.grid.counts.now 1 (length nexts.old) top }
+        ensures { Walks self.entry.grid.counts.now self.entry.grid.downs.now 1 q stop top heads.old nexts.old heads.new nexts.new }
     {
-        let last = self.stop.max(top - self.grid.counts[0]);
+        let last = stop.max(top - self.grid.counts[0]);
         let mut tile = top;
         let mut here = q;
         // A turn takes a run of tiles: no `for` counts runs.
@@ -171,26 +180,28 @@ impl<'a> Walk<'a> {
     }
 
     // Visits a line along place 0, by what the table of leaps has.
-    fn line(&self, q: usize, top: u32, heads: &mut [u32], nexts: &mut [u32])
-        requires { (length heads.old ≡ self.now.grid.p) × (q < self.now.grid.p) × BlockTop self.now.grid.counts.now 1 (length nexts.old) top }
-        ensures { Walks self.now.grid.counts.now self.now.grid.downs.now 1 q self.now.stop top heads.old nexts.old heads.new nexts.new }
+    #[inline(always)]
+    fn line(self, q: usize, top: u32, stop: u32, heads: &mut [u32], nexts: &mut [u32])
+        requires { (length heads.old ≡ self.grid.p) × (q < self.grid.p) × BlockTop self.grid.counts.now 1 (length nexts.old) top }
+        ensures { Walks self.entry.grid.counts.now self.entry.grid.downs.now 1 q stop top heads.old nexts.old heads.new nexts.new }
     {
         match self.way {
-            Way::Paired => self.paired_line(q, top, heads, nexts),
-            Way::Falling => self.run_line(false, q, top, heads, nexts),
-            Way::Rising => self.run_line(true, q, top, heads, nexts),
+            Way::Paired => self.paired_line(q, top, stop, heads, nexts),
+            Way::Falling => self.run_line(false, q, top, stop, heads, nexts),
+            Way::Rising => self.run_line(true, q, top, stop, heads, nexts),
         }
     }
 
     // Visits a block of level 2, line by line, and gives the tile below it.
-    fn lines(&self, q: usize, top: u32, heads: &mut [u32], nexts: &mut [u32]) -> u32
-        requires { (length heads.old ≡ self.now.grid.p) × (q < self.now.grid.p) × BlockTop self.now.grid.counts.now 2 (length nexts.old) top }
-        ensures { (result ≡ top - block_size self.now.grid.counts.now 2) × (Walks self.now.grid.counts.now self.now.grid.downs.now 2 q self.now.stop top heads.old nexts.old heads.new nexts.new) }
+    #[inline(always)]
+    fn lines(self, q: usize, top: u32, stop: u32, heads: &mut [u32], nexts: &mut [u32]) -> u32
+        requires { (length heads.old ≡ self.grid.p) × (q < self.grid.p) × BlockTop self.grid.counts.now 2 (length nexts.old) top }
+        ensures { (result ≡ top - block_size self.entry.grid.counts.now 2) × (Walks self.entry.grid.counts.now self.entry.grid.downs.now 2 q stop top heads.old nexts.old heads.new nexts.new) }
     {
         let mut tile = top;
         let mut at = q;
         for _ in 0..self.grid.counts[1] {
-            self.line(at, tile, heads, nexts);
+            self.line(at, tile, stop, heads, nexts);
             at = self.grid.lower(1, at);
             tile -= self.grid.counts[0];
         }
@@ -198,18 +209,26 @@ impl<'a> Walk<'a> {
     }
 
     // Visits a block, level by level down to lines, and gives the tile below it.
-    fn block(&self, level: usize, q: usize, top: u32, heads: &mut [u32], nexts: &mut [u32]) -> u32
+    fn block(
+        &self,
+        level: usize,
+        q: usize,
+        top: u32,
+        stop: u32,
+        heads: &mut [u32],
+        nexts: &mut [u32],
+    ) -> u32
         requires { (2 ≤ level) × (level ≤ 5) × (length heads.old ≡ self.now.grid.p) × (q < self.now.grid.p) × BlockTop self.now.grid.counts.now level (length nexts.old) top }
-        ensures { (result ≡ top - block_size self.now.grid.counts.now level) × (Walks self.now.grid.counts.now self.now.grid.downs.now level q self.now.stop top heads.old nexts.old heads.new nexts.new) }
+        ensures { (result ≡ top - block_size self.now.grid.counts.now level) × (Walks self.now.grid.counts.now self.now.grid.downs.now level q stop top heads.old nexts.old heads.new nexts.new) }
     {
         if level == 2 {
-            return self.lines(q, top, heads, nexts);
+            return self.lines(q, top, stop, heads, nexts);
         }
         let k = level - 1;
         let mut tile = top;
         let mut at = q;
         for _ in 0..self.grid.counts[k] {
-            tile = self.block(k, at, tile, heads, nexts);
+            tile = self.block(k, at, tile, stop, heads, nexts);
             at = self.grid.lower(k, at);
         }
         tile
@@ -338,10 +357,9 @@ fn visit_above(shaped: &ShapedPlan, stop: u32, heads: &mut [u32], nexts: &mut [u
         grid,
         way,
         leaps: &leaps,
-        stop,
     };
     let top = shaped.tile_count() as u32;
-    walk.block(5, top_owner(shaped), top, heads, nexts);
+    walk.block(5, top_owner(shaped), top, stop, heads, nexts);
 }
 
 // Clears the first list and visits the tiles above `stop`.

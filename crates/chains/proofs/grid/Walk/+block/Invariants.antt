@@ -9,4 +9,4 @@ decreases-block l = l.level
 
 abbrev pub invariant-loop : goal.invariant-loop
 invariant-loop l =
-    Across l.self.grid.counts.now l.self.grid.downs.now l.k l.q l.self.stop l.top l.tile (get_or l.self.grid.counts.now l.k 0 - l.counter) l.at l.initial.heads l.initial.nexts l.heads l.nexts
+    Across l.self.grid.counts.now l.self.grid.downs.now l.k l.q l.stop l.top l.tile (get_or l.self.grid.counts.now l.k 0 - l.counter) l.at l.initial.heads l.initial.nexts l.heads l.nexts
