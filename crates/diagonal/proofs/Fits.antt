@@ -1,18 +1,15 @@
 -- Whether s cuts each way fit: what `iter().zip(..).all(..)` answers of extents and least thicknesses in pairs.
-use mathlib.Core.Path.{◌≡◌, refl, sym, ap, ◌∙◌, subst}
+use mathlib.Core.Path.{◌≡◌, refl, sym, ◌∙◌, subst}
 use mathlib.Core.Bool.{Bool, true, false}
-use mathlib.Core.List.{List, ◌++◌}
+use mathlib.Core.List.{List}
 use Prim.Native.Nat.{ℕ, ◌*◌, ◌≤◌, ◌<◌}
 use native.Mathlib.Omega.{arith}
 use lib.Dec.{leb}
-use lib.ListN.{length, get_or, replicate, get_or-append}
-use lib.Seq.{get_or-take}
+use lib.ListN.{length, get_or}
 use Rattle.std.specs.Bool.{MatchBool}
 use Rattle.std.specs.List.{AllWithin, HoldsAt, zip}
 use Rattle.std.proofs.lemmas.Slice.Zip.{get_or-zip, length-zip}
 use Rattle.multipartition.proofs.Tests.{all_below-true_iff, false-not-true}
-use Rattle.layout.specs.Plans.{five}
-use Rattle.layout.proofs.Lists.{all-ext}
 use Rattle.diagonal.specs.Diagonal.{side_fits}
 
 module _ (s : ℕ) (extents least : List ℕ) (enough : length extents ≤ length least) where
@@ -43,11 +40,3 @@ module _ (s : ℕ) (extents least : List ℕ) (enough : length extents ≤ lengt
       go true h =
           absurd (false-not-true (sym (subst (λ (p : ℕ × ℕ). leb (s * p.1) p.0 ≡ false) (at some.0 inside) (some.2 (0, 0)))
           ∙ (all_below-true_iff (length extents) test).0 h some.0 inside))
-
--- thicknesses with zeros after them
-pub fits_padded : (s : ℕ) (extents least : List ℕ) → length extents ≤ 5 → length least ≡ length extents → side_fits s extents (five least) ≡ side_fits s extents least
-unfolding side_fits
-fits_padded s extents least few many =
-    all-ext (length extents) (λ k. leb (s * get_or (five least) k 0) (get_or extents k 0)) (λ k. leb (s * get_or least k 0) (get_or extents k 0))
-    (λ k l. ap (λ (t : ℕ). leb (s * t) (get_or extents k 0))
-    (get_or-take 5 (least ++ replicate 5 0) k 0 (omega arith) ∙ get_or-append least (replicate 5 0) 0 k (omega arith)))

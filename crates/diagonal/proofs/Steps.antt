@@ -1,9 +1,10 @@
 -- The lines of the table that turn a job down, in the order of the call: 1 and 2, then 12, then 3, 4 and 13, then 5.
 use mathlib.Core.Path.{◌≡◌, refl, sym, ap, ap₂, ◌∙◌}
 use mathlib.Core.Bool.{Bool, true, false, not}
-use mathlib.Core.List.{List, [], ◌∷◌, ◌++◌}
+use mathlib.Core.List.{[], ◌∷◌, ◌++◌}
 use Prim.Native.Nat.{ℕ, ◌≤◌}
 use native.Mathlib.Omega.{arith}
+use lib.ListN.{length}
 use Rattle.std.specs.Prelude.{Option, None, Some, Result, Ok, Err}
 use Rattle.std.specs.Option.{ok_or}
 use Rattle.multipartition.specs.Answers.{Answer, answered, refused, Check, checked}
@@ -15,11 +16,10 @@ use Rattle.refusals.specs.declared.Refusal.TheVariants.{Unsuited}
 use Rattle.refusals.specs.Told.{turned_back, told}
 use Rattle.refusals.proofs.Laws.{answered-ne-refused, answered-is, refused-as, turned_back-on, passed-on}
 use Rattle.layout.specs.declared.Plan.{Plan}
-use Rattle.layout.specs.Plans.{five, plan_of}
+use Rattle.layout.specs.Plans.{plan_of}
 use Rattle.planner.specs.Asked.{Measured}
 use Rattle.planner.specs.Planned.{planned_answer, size_checks, list_checks, lists_answer}
 use Rattle.planner.proofs.Checks.{sizes_passed, planned-checked}
-use Rattle.diagonal.proofs.Fits.{fits_padded}
 use Rattle.diagonal.proofs.Sides.{suits_facts, side_low}
 use Rattle.diagonal.specs.Diagonal.{diagonal_plan, side_of, suits, suited_side, side_fits, diagonal_checks, diagonal_answer}
 
@@ -78,8 +78,16 @@ module _ (job : Job) where
         last : planned_answer (diagonal_answer job) ≡ checked (fit ∷ []) end
         last = past ∙ (passed-on (list_checks job) (fit ∷ []) job passed end lists).1
 
-        -- s cuts each way, by the thicknesses of the job that passed
-        module _ (s : ℕ) (s_is : s ≡ side_of job.d job.p) (holds : Measured passed) (least : List ℕ) (least_are : least ≡ five passed.least) where
+        -- the job has as many extents as dimensions, and as many thicknesses
+        module _ (holds : Measured passed) where
+          pub extents_many : length job.extents ≡ job.d
+          extents_many = ap (λ (j : Job). length j.extents) (sym is_asked) ∙ holds.extents_many ∙ ap (λ (j : Job). j.d) is_asked
+
+          pub least_many : length job.least ≡ job.d
+          least_many = ap (λ (j : Job). length j.least) (sym is_asked) ∙ holds.least_many ∙ ap (λ (j : Job). j.d) is_asked
+
+        -- s cuts each way, of the job that passed
+        module _ (s : ℕ) (s_is : s ≡ side_of job.d job.p) where
           pub bounds : (passed.d ≤ 3) × (1 ≤ s) × (s ≤ 4096)
           bounds =
               let suited = (suits_facts job.d job.p).0 suit in
@@ -88,13 +96,9 @@ module _ (job : Job) where
               let low = side_low job.d job.p in
               (omega (arith, suited.high), omega (arith, s_is), omega (arith, s_is, suited.side_high, high.3))
 
-          module _ (r : Bool) (tested : r ≡ side_fits s job.extents least) where
+          module _ (r : Bool) (tested : r ≡ side_fits s job.extents job.least) where
             fit_is : side_fits (side_of job.d job.p) job.extents job.least ≡ r
-            fit_is =
-                ap₂ {C = Bool} (λ t (j : Job). side_fits t j.extents j.least) (sym s_is) (sym is_asked)
-                ∙ sym (fits_padded s passed.extents passed.least (omega (arith, holds.d_high, holds.extents_many)) (holds.least_many ∙ sym holds.extents_many))
-                ∙ ap₂ {C = Bool} (λ (j : Job) ts. side_fits s j.extents ts) is_asked (sym least_are)
-                ∙ sym tested
+            fit_is = ap (λ t. side_fits t job.extents job.least) (sym s_is) ∙ sym tested
 
             pub fit_refuses : r ≡ false → refused 5 0 ≡ planned_answer (diagonal_answer job)
             fit_refuses e = sym (last ∙ rw (fit_is, e) refl)

@@ -3,6 +3,7 @@
 
 ghost use Rattle.std.specs.Prelude.{◌≡◌, ◌++◌, ◌∷◌, ◌-◌, ◌*◌, ◌≤◌, leb, length, replicate, sum, take};
 ghost use Rattle.multipartition.specs.Cuts.{cost_of};
+ghost use Rattle.multipartition.specs.Plans.{least_of};
 ghost use Rattle.refusals.specs.Told.{told};
 ghost use Rattle.layout.specs.Plans.{five, flat, plan_of};
 ghost use Rattle.planner.specs.Asked.{asked};
@@ -67,6 +68,24 @@ fn side_fits(s: u32, extents: &[u32], least: &[u32]) -> bool
         .all(|(extent, least)| slabs_fit(s, *extent, *least))
 }
 
+// Whether s slabs of any thickness fit each extent.
+fn side_within(s: u32, extents: &[u32]) -> bool
+    ensures { result ≡ side_fits s extents.now (replicate (length extents.now) 1) }
+{
+    extents.iter().all(|extent| s <= *extent)
+}
+
+// Whether s cuts each way fit, by the list of least thicknesses given. No list of ones is made for this (docs/DECISIONS.md 43).
+fn cuts_fit(s: u32, extents: &[u32], given: &[u32]) -> bool
+    requires { length (least_of (length extents.now) given.now) ≡ length extents.now }
+    ensures { result ≡ side_fits s extents.now (least_of (length extents.now) given.now) }
+{
+    if given.is_empty() {
+        return side_within(s, extents);
+    }
+    side_fits(s, extents, given)
+}
+
 // The sum of the weights.
 fn total(weights: &[u32]) -> u64
     requires { length weights.now ≤ 3 }
@@ -109,10 +128,9 @@ fn matrix_of(d: usize, s: u32) -> [u32; 25]
     matrix
 }
 
-// The plan with s cuts each way, by its least thicknesses.
-fn plan_with(s: u32, passed: PassedJob, least: [u32; 5]) -> Plan
-    requires in_bounds { (passed.job.d ≤ 3) × (1 ≤ s) × (s ≤ 4096) }
-    requires thickness { least ≡ five (passed_job passed).least }
+// The plan with s cuts each way.
+fn plan_with(s: u32, passed: PassedJob) -> Plan
+    requires { (passed.job.d ≤ 3) × (1 ≤ s) × (s ≤ 4096) }
     ensures { result ≡ plan_of (diagonal_plan (passed_job passed.entry) s) }
 {
     let Job {
@@ -132,7 +150,7 @@ fn plan_with(s: u32, passed: PassedJob, least: [u32; 5]) -> Plan
         moduli: with_sides(d, 1, s),
         matrix: matrix_of(d, s),
         kind: 1,
-        least,
+        least: passed.thicknesses(),
     }
 }
 
@@ -143,9 +161,8 @@ pub fn diagonal_job(job: Job) -> Result<Plan, Refusal>
     job.sizes_checked()?;
     let s = side_of(job.d, job.p).ok_or(Refusal::Unsuited)?;
     let passed = job.lists_checked()?;
-    let least = passed.thicknesses();
-    if !side_fits(s, job.extents, &least) {
+    if !cuts_fit(s, job.extents, job.least) {
         return Err(Refusal::NoCuts);
     }
-    Ok(plan_with(s, passed, least))
+    Ok(plan_with(s, passed))
 }

@@ -134,6 +134,9 @@ impl<'a> PassedJob<'a> {
         ensures { result ≡ five (most_of (passed_job self.entry).extents (passed_job self.entry).least) }
     {
         let mut most = padded(self.job.extents);
+        if self.job.least.is_empty() {
+            return most;
+        }
         // Each by its place: of what a loop over `iter_mut().zip(..)` writes, a proof knows the length alone.
         for (k, least) in self.job.least.iter().enumerate() {
             most[k] /= *least;

@@ -28,5 +28,5 @@ returns c =
       moduli = moduli i;
       matrix = c.matrix_of.ensures i;
       kind = 1;
-      least = c.requires.thickness i;
+      least = c.thicknesses.ensures i;
     }
