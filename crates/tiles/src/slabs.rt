@@ -31,7 +31,8 @@ pub fn thickness(n: u32, b: u32, s: u32) -> u32
 }
 
 impl Slabs {
-    // The slabs of a dimension of a plan, or the refusals 6 and 7. Nothing of the plan is copied.
+    // The slabs of a dimension of a plan, or the refusals 6 and 7. Nothing of the plan is copied: inlined, the link reads its list and makes no plan.
+    #[inline(always)]
     pub fn of(plan: &Plan, dimension: usize) -> Result<Slabs, Refusal>
         ensures { told_by (λ slabs. (slabs.extent, slabs.cut)) result ≡ slabs_answer plan.now dimension }
     {
