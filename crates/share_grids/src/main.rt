@@ -2,11 +2,13 @@
 // stdout.
 #![tactic(auto)]
 
+use arrayvec::ArrayString;
 use planner::Job;
-use std::io;
+use std::fmt::Write;
+use std::{fmt, io};
 
 // The smallest share of a job's processors that is refused with 5, nothing to show, or a refusal.
-fn print_share(rt: &impl Print, p: u32, extents: &[u32], least: &[u32]) -> io::Result<()> {
+fn print_share(out: &mut impl Write, p: u32, extents: &[u32], least: &[u32]) -> fmt::Result {
     let ones = [1; 4];
     let job = Job {
         p,
@@ -16,13 +18,14 @@ fn print_share(rt: &impl Print, p: u32, extents: &[u32], least: &[u32]) -> io::R
         least,
     };
     match refused_share::smallest_refused(job) {
-        Ok(Some(divisor)) => println!(rt; "smallest {divisor}"),
-        Ok(None) => println!(rt; "nothing"),
-        Err(refusal) => println!(rt; "refused {} {}", refusal.number(), refusal.place()),
+        Ok(Some(divisor)) => writeln!(out, "smallest {divisor}"),
+        Ok(None) => writeln!(out, "nothing"),
+        Err(refusal) => writeln!(out, "refused {} {}", refusal.number(), refusal.place()),
     }
 }
 
-fn main(rt: HostRuntime) -> io::Result<()> {
+// All lines.
+fn print_all(out: &mut impl Write) -> fmt::Result {
     for (p, extents, least) in [
         // 12 processors on 5 5, 9 9 and 12 12, and 4,096 on 4096 4095
         (12, &[5, 5][..], &[1, 1][..]),
@@ -40,7 +43,15 @@ fn main(rt: HostRuntime) -> io::Result<()> {
         // 4 with place 2: 12 on 5 0
         (12, &[5, 0], &[]),
     ] {
-        print_share(&rt, p, extents, least)?;
+        print_share(out, p, extents, least)?;
     }
     Ok(())
+}
+
+// The lines are written at once. Where that fails, nothing is said.
+fn main(rt: HostRuntime) {
+    let mut text = ArrayString::<256>::new();
+    if print_all(&mut text).is_ok() {
+        let _ = io::Write::write_all(&mut rt.stdout(), text.as_str().as_bytes());
+    }
 }
